@@ -1,0 +1,4 @@
+pub mod FourBytes
+pub mod Padded
+mod QuoteLaws
+mod CurveLaws

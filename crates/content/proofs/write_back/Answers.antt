@@ -1,0 +1,17 @@
+-- The meaning of what was read is the bytes that it was read from.
+use mathlib.Core.Path.{_≡_, sym, ap, _∙_}
+use mathlib.Core.List.{List}
+use Prim.Native.Nat.{ℕ}
+use Rattle.std.specs.Options.{mapped}
+use Rattle.std.specs.declared.option.Option.{Option}
+use Rattle.std.specs.declared.option.Option.the-variants.{Some}
+use Rattle.content.specs.Bytes.{padded}
+use Rattle.content.proofs.Padded.{bytes-from-fits}
+use Rattle.content.proofs.write_back.Needs as need
+
+pub returns-in-Some : need.returns-in-Some
+returns-in-Some g c =
+    let bs = c .args .part .now in
+    let read = c .in-Some .ensures tt in
+    let same = g .C·Content·met .«writes_read» bs (c .in-Some .content) (bytes-from-fits bs (c .typed .part)) (sym read) in
+    ap Some (c .to-bytes .ensures ∙ ap padded same) ∙ ap (mapped (λ _. padded bs)) read

@@ -1,0 +1,21 @@
+-- Bytes as numbers, and the four bytes of a number of 32 bits.
+use mathlib.Core.List.{List, [], _∷_, _++_}
+use Prim.Native.Nat.{ℕ, _+_, _-_, _*_, _/_, _%_, _^_, _<_}
+use lib.ListN.{length, getD, replicate}
+use Rattle.std.specs.shelf.Lists.{All}
+
+-- each number of the list is a byte
+abbrev pub AllBytes : List ℕ → Type 0
+AllBytes bs = All (λ b. b < 256) bs
+
+-- bytes, then zeros up to 16: how a content lies in a table
+abbrev pub padded : List ℕ → List ℕ
+padded bs = bs ++ replicate (16 - length bs) 0
+
+-- a number of 32 bits as four bytes, the highest first
+abbrev pub four : ℕ → List ℕ
+four n = (n / 2 ^ 24 % 256) ∷ (n / 2 ^ 16 % 256) ∷ (n / 2 ^ 8 % 256) ∷ (n % 256) ∷ []
+
+-- the number whose four bytes stand from place i on, the highest first
+abbrev pub four-at : List ℕ → ℕ → ℕ
+four-at bs i = getD bs i 0 * 2 ^ 24 + getD bs (i + 1) 0 * 2 ^ 16 + getD bs (i + 2) 0 * 2 ^ 8 + getD bs (i + 3) 0
