@@ -3,12 +3,14 @@ use mathlib.Core.List.{List, [], _∷_, _++_}
 use mathlib.Core.Bool.{cond}
 use Prim.Native.Nat.{ℕ, _%_, _^_, _<_}
 use native.Mathlib.Omega.{arith}
+use lib.Chars.{codes}
 use lib.Dec.{eqb}
 use lib.IntN.{ℤ}
 use lib.ListN.{length}
 use mir.Syntax.{w32}
 use mir.Val.{toZ, ofZ}
 use mir.ValLaws.{toZ-fits}
+use Rattle.std.specs.Written.{signed}
 use Rattle.std.specs.declared.option.Option.{Option}
 use Rattle.std.specs.declared.option.Option.the-variants.{Some, None}
 use Rattle.content.specs.declared.curve.Curve.{Curve}
@@ -41,3 +43,9 @@ curve-read bs =
     cond (eqb (length bs) 16)
     (Some (record { first = rate-of (four-at bs 0); second = rate-of (four-at bs 4); third = rate-of (four-at bs 8); fourth = rate-of (four-at bs 12) }))
     None
+
+-- as it is printed: the four rates, a blank between two
+abbrev pub shown-curve : Curve → List ℕ
+shown-curve curve =
+    signed (curve .first .value)
+    ++ (codes " " ++ (signed (curve .second .value) ++ (codes " " ++ (signed (curve .third .value) ++ (codes " " ++ signed (curve .fourth .value))))))

@@ -4,8 +4,10 @@ use mathlib.Core.Bool.{cond}
 use Prim.Native.Nat.{ℕ, _^_}
 use mathlib.Core.Logic.{dite}
 use native.Mathlib.Decide.{decLe, decLt}
+use lib.Chars.{codes}
 use lib.Dec.{eqb}
 use lib.ListN.{length}
+use Rattle.std.specs.Written.{decimal}
 use Rattle.std.specs.declared.option.Option.{Option}
 use Rattle.std.specs.declared.option.Option.the-variants.{Some, None}
 use Rattle.content.specs.declared.quote.Quote.{Quote}
@@ -24,3 +26,7 @@ quote-bytes quote = four (quote .bid) ++ four (quote .ask)
 -- eight bytes are read as their bid and ask, and are none of a quote where there is no such quote
 abbrev pub quote-read : List ℕ → Option Quote
 quote-read bs = cond (eqb (length bs) 8) (quoted (four-at bs 0) (four-at bs 4)) None
+
+-- as it is printed: bid, a blank, ask
+abbrev pub shown-quote : Quote → List ℕ
+shown-quote quote = decimal (quote .bid) ++ (codes " " ++ decimal (quote .ask))

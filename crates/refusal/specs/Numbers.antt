@@ -1,7 +1,17 @@
--- The numbers of refusals: the one place that has them besides the table in docs/.
+-- The numbers and the words of refusals: the one place that has them, besides the table in docs/.
+use mathlib.Core.List.{List, _++_}
 use Prim.Native.Nat.{ℕ}
+use lib.Chars.{codes}
+use Rattle.std.specs.Written.{decimal}
 use Rattle.refusal.specs.declared.Refusal.{Refusal}
 use Rattle.refusal.specs.declared.Refusal.the-variants.{Unlawful}
 
 abbrev pub number : Refusal → ℕ
 number Unlawful = 13
+
+abbrev pub words : Refusal → List ℕ
+words Unlawful = codes "outside its bounds"
+
+-- as it is printed: the number, a colon, the words
+abbrev pub shown-refusal : Refusal → List ℕ
+shown-refusal refusal = decimal (number refusal) ++ (codes ": " ++ words refusal)

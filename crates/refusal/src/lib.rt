@@ -1,8 +1,7 @@
-//! Why a request is refused: each reason has a number that callers, printed answers and other makers' machines share.
+//! Why something is refused: each reason has a number that callers and printed answers share.
 ghost use mathlib.Core.Path.{_≡_};
-ghost use lib.Chars.{codes};
 ghost use Rattle.std.specs.declared.option.Option.the-variants.{Some};
-ghost use Rattle.refusal.specs.Numbers.{number};
+ghost use Rattle.refusal.specs.Numbers.{number, words, shown-refusal};
 use std::fmt;
 
 /// The reason of a refusal.
@@ -13,7 +12,7 @@ pub enum Refusal {
 }
 
 impl Refusal {
-    /// The number of the reason, as `Refusal::Unlawful.number() == 13`.
+    /// The number of the reason: `Refusal::Unlawful.number()` is 13.
     pub fn number(self) -> u8
         ensures { λ r. ⌜ r ≡ number self ⌝ }
     {
@@ -21,12 +20,23 @@ impl Refusal {
             Refusal::Unlawful => 13,
         }
     }
+
+    /// The reason in words: `Refusal::Unlawful.words()` is "outside its bounds".
+    pub fn words(self) -> &'static str
+        ensures { λ r. ⌜ now r ≡ words self ⌝ }
+    {
+        match self {
+            Refusal::Unlawful => "outside its bounds",
+        }
+    }
 }
 
 pub impl fmt::Display for Refusal as RefusalDisplay {
+    ghost shown = { λ refusal. Some (shown-refusal refusal) };
+
     fn fmt<W: fmt::Write>(&self, f: &mut fmt::Formatter<W>) -> fmt::Result {
-        match self {
-            Refusal::Unlawful => write!(f, "outside its bounds"),
-        }
+        let number = self.number();
+        let words = self.words();
+        write!(f, "{number}: {words}")
     }
 }

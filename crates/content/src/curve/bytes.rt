@@ -3,11 +3,13 @@ ghost use mathlib.Core.Path.{_≡_};
 ghost use mathlib.Core.List.{[], _∷_};
 ghost use Prim.Native.Nat.{_+_, _≤_};
 ghost use lib.ListN.{length};
+ghost use Rattle.std.specs.declared.option.Option.the-variants.{Some};
 ghost use Rattle.content.specs.Bytes.{four-at};
-ghost use Rattle.content.specs.Curve.{rate-of, rates, curve-bytes, curve-read};
+ghost use Rattle.content.specs.Curve.{rate-of, rates, curve-bytes, curve-read, shown-curve};
 use crate::Content;
 use crate::curve::Curve;
 use crate::curve::Rate;
+use std::fmt;
 
 impl Curve {
     /// The curve of four rates, as `Curve::new(-25, 10, 130, 275)`.
@@ -69,6 +71,18 @@ pub impl Content for Curve as CurveContent {
             third: rate_at(part, 8),
             fourth: rate_at(part, 12),
         })
+    }
+}
+
+pub impl fmt::Display for Curve as CurveDisplay {
+    ghost shown = { λ curve. Some (shown-curve curve) };
+
+    fn fmt<W: fmt::Write>(&self, f: &mut fmt::Formatter<W>) -> fmt::Result {
+        let first = self.first.value;
+        let second = self.second.value;
+        let third = self.third.value;
+        let fourth = self.fourth.value;
+        write!(f, "{first} {second} {third} {fourth}")
     }
 }
 

@@ -2,10 +2,12 @@
 ghost use mathlib.Core.Path.{_≡_};
 ghost use Rattle.std.specs.Options.{okOr};
 ghost use Rattle.refusal.specs.declared.Refusal.the-variants.{Unlawful};
-ghost use Rattle.content.specs.Quote.{quoted, quote-bytes, quote-read};
+ghost use Rattle.std.specs.declared.option.Option.the-variants.{Some};
+ghost use Rattle.content.specs.Quote.{quoted, quote-bytes, quote-read, shown-quote};
 use crate::Content;
 use crate::quote::Quote;
 use refusal::Refusal;
+use std::fmt;
 
 impl Quote {
     /// The quote of a bid and an ask, as `Quote::new(500, 510)?`; refused if the bid is above the ask.
@@ -43,5 +45,15 @@ pub impl Content for Quote as QuoteContent {
         let bid = u32::from_be_bytes([*b0, *b1, *b2, *b3]);
         let ask = u32::from_be_bytes([*a0, *a1, *a2, *a3]);
         Quote::new(bid, ask).ok()
+    }
+}
+
+pub impl fmt::Display for Quote as QuoteDisplay {
+    ghost shown = { λ quote. Some (shown-quote quote) };
+
+    fn fmt<W: fmt::Write>(&self, f: &mut fmt::Formatter<W>) -> fmt::Result {
+        let bid = self.bid;
+        let ask = self.ask;
+        write!(f, "{bid} {ask}")
     }
 }
