@@ -1,0 +1,4 @@
+pub mod Meeting
+mod MajorityLaws
+mod WeightedLaws
+mod Weights

@@ -1,0 +1,29 @@
+-- The weight of a set, place by place.
+use mathlib.Core.Path.{_≡_, refl, sym, ap, _∙_}
+use mathlib.Core.Bool.{Bool, true, false, cond, _&&_}
+use mathlib.Core.List.{List, [], _∷_}
+use Prim.Native.Nat.{ℕ, zero, suc, _+_, _*_, _/_, _%_, _^_, _≤_, _<_}
+use native.Mathlib.Omega.{arith}
+use lib.Dec.{leb, eqb}
+use lib.ListN.{length, getD, drop}
+use Rattle.std.proofs.shelf.Lists.{at-drop-more}
+use Rattle.std.proofs.shelf.Tests.{and-parts}
+use Rattle.std.proofs.shelf.Ways.{tells}
+use Rattle.quorum.specs.Sets.{member}
+use Rattle.quorum.specs.Rules.{weight, at-most-hundred}
+
+-- what the weights from place i on add, one place taken off
+pub weight-more : (ws : List ℕ) (i rest : ℕ) → i < length ws → weight (drop i ws) rest ≡ cond (member 0 rest) (getD ws i 0) 0 + weight (drop (i + 1) ws) (rest / 2)
+weight-more ws i rest h = at-drop-more (λ (l : List ℕ). weight l rest) ws i 0 h
+
+pub weight-nobody : (ws : List ℕ) → weight ws 0 ≡ 0
+weight-nobody [] = refl
+weight-nobody (w ∷ ws) = omega (arith, weight-nobody ws)
+
+pub light-more : (ws : List ℕ) (i : ℕ) → i < length ws → at-most-hundred (drop i ws) ≡ (leb (getD ws i 0) 100 && at-most-hundred (drop (i + 1) ws))
+light-more ws i h = at-drop-more at-most-hundred ws i 0 h
+
+pub light-at : (ws : List ℕ) → at-most-hundred ws ≡ true → (place : ℕ) → getD ws place 0 ≤ 100
+light-at [] h place = omega arith
+light-at (w ∷ ws) h zero = let p = and-parts (leb w 100) (at-most-hundred ws) h in grind (arith, tells)
+light-at (w ∷ ws) h (suc place) = light-at ws (and-parts (leb w 100) (at-most-hundred ws) h .1) place

@@ -1,0 +1,25 @@
+use borrow.Author.Needs.{needs}
+use native.Mathlib.Omega.{arith}
+use Rattle.std.proofs.shelf.Ways.{tells}
+use Rattle.std.proofs.shelf.Lists.{at-drop-all}
+use Rattle.quorum.specs.Rules.{at-most-hundred}
+use Rattle.quorum.proofs.Weights.{light-more}
+use Rattle.quorum.proofs.weighted.rule.light.Needs as need
+
+pub returns-then-weight-gt100 : need.returns-then-weight-gt100
+returns-then-weight-gt100 c =
+    let step = light-more (c .args .weights .now) (c .loop-weight .weight-index) (c .loop-weight-test .taken) in
+    let left = c .loop-weight .inv in
+    grind (arith, tells)
+
+pub loop-weight-again : need.loop-weight-again
+loop-weight-again c =
+    let step = light-more (c .args .weights .now) (c .loop-weight .weight-index) (c .loop-weight-test .taken) in
+    let left = c .loop-weight .inv in
+    grind (arith, tells)
+
+pub returns : need.returns
+returns c =
+    let none = at-drop-all at-most-hundred (c .args .weights .now) (c .loop-weight .weight-index) (c .loop-weight-test .left) in
+    let left = c .loop-weight .inv in
+    cc

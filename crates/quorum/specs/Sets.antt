@@ -1,0 +1,20 @@
+-- Sets of places. A set is a number: place i is in it if bit i is 1.
+use mathlib.Core.Bool.{Bool, true, _&&_}
+use mathlib.Core.Path.{_≡_}
+use Prim.Native.Nat.{ℕ, _-_, _/_, _%_, _^_, _<_}
+use lib.Dec.{eqb, leb, ltb}
+
+abbrev pub member : ℕ → ℕ → Bool
+member place set = eqb (set / 2 ^ place % 2) 1
+
+-- the set of all places below a size
+abbrev pub everyone : ℕ → ℕ
+everyone size = 2 ^ size - 1
+
+-- the size is 1 to 7, and the set has only places below it
+abbrev pub in-bounds : ℕ → ℕ → Bool
+in-bounds size set = (leb 1 size && leb size 7) && ltb set (2 ^ size)
+
+-- some place below the size is in both sets
+abbrev pub Share : ℕ → ℕ → ℕ → Type 0
+Share size one other = (place : ℕ) × (place < size) × (member place one ≡ true) × (member place other ≡ true)

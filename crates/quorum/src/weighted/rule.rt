@@ -1,0 +1,60 @@
+//! How a weighted rule is made and asked.
+ghost use mathlib.Core.Path.{_≡_};
+ghost use Prim.Native.Nat.{_≤_};
+ghost use Rattle.quorum.specs.Rules.{at-most-hundred, weighted, weight, heavier-half, rule-weights};
+use crate::QuorumRule;
+use crate::sets::everyone;
+use crate::sets::within;
+use crate::weighted::Weighted;
+use refusal::Refusal;
+
+impl Weighted {
+    /// The rule with these weights, as `Weighted::new([3, 1, 1, 0, 0, 0, 0])?`; refused if the first is 0 or one is above 100.
+    pub fn new(weights: [u8; 7]) -> Result<Weighted, Refusal>
+        ensures { λ r. ⌜ rule-weights r ≡ weighted weights ⌝ }
+    {
+        if weights[0] < 1 || !light(&weights) {
+            return Err(Refusal::Unlawful);
+        }
+        Ok(Weighted { weights })
+    }
+
+    // The weight of a set.
+    fn weight(&self, set: u8) -> u16
+        ensures value { λ r. ⌜ r ≡ weight (now (self .entry) .weights) set ⌝ }
+        ensures bound { λ r. ⌜ r ≤ 700 ⌝ }
+    {
+        let mut sum = 0;
+        let mut rest = set;
+        for weight in &self.weights {
+            if rest % 2 == 1 {
+                sum += *weight as u16;
+            }
+            rest /= 2;
+        }
+        sum
+    }
+}
+
+pub impl QuorumRule for Weighted as WeightedRule {
+    ghost winning = { λ rule size set. heavier-half (rule .weights) size set };
+
+    fn wins(&self, size: u8, set: u8) -> bool {
+        if !within(size, set) {
+            return false;
+        }
+        2 * self.weight(set) > self.weight(everyone(size))
+    }
+}
+
+// Whether no weight is above 100.
+fn light(weights: &[u8]) -> bool
+    ensures { λ r. ⌜ r ≡ at-most-hundred (now (weights .entry)) ⌝ }
+{
+    for weight in weights {
+        if *weight > 100 {
+            return false;
+        }
+    }
+    true
+}
