@@ -7,11 +7,11 @@ use mir.Syntax.{w8}
 use mir.Val.{Fits}
 use Rattle.std.proofs.shelf.Elements.{all-from-getD}
 use Rattle.std.proofs.shelf.Lists.{take-at}
-use Rattle.content.specs.Bytes.{AllBytes, padded}
+use Rattle.content.specs.Bytes.{AllBytes, padded, widest}
 
 -- the bytes are the front of the padded ones
 pub front-of-padded : (bs : List ℕ) (n : ℕ) → length bs ≡ n → take n (padded bs) ≡ bs
-front-of-padded bs = take-at bs (replicate (16 - length bs) 0)
+front-of-padded bs = take-at bs (replicate (widest - length bs) 0)
 
 -- what a slice of bytes holds
 pub bytes-from-fits : (bs : List ℕ) → ((i : ℕ) → Fits w8 (getD bs i 0)) → AllBytes bs

@@ -8,9 +8,13 @@ use Rattle.std.specs.shelf.Lists.{All}
 abbrev pub AllBytes : List ℕ → Type 0
 AllBytes bs = All (λ b. b < 256) bs
 
+-- the most bytes that a content may take
+abbrev pub widest : ℕ
+widest = 16
+
 -- bytes, then zeros up to 16: how a content lies in a table
 abbrev pub padded : List ℕ → List ℕ
-padded bs = bs ++ replicate (16 - length bs) 0
+padded bs = bs ++ replicate (widest - length bs) 0
 
 -- a number of 32 bits as four bytes, the highest first
 abbrev pub four : ℕ → List ℕ

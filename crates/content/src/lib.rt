@@ -6,12 +6,24 @@ ghost use lib.ListN.{length};
 ghost use Rattle.std.specs.Options.{mapped};
 ghost use Rattle.std.specs.declared.option.Option.{Option};
 ghost use Rattle.std.specs.declared.option.Option.the-variants.{Some};
-ghost use Rattle.content.specs.Bytes.{AllBytes, padded};
+ghost use Rattle.content.specs.Bytes.{AllBytes, padded, widest};
 
-pub mod curve;
-pub mod quote;
+mod curve;
+mod quote;
 
-/// The most bytes that a content may take.
+pub use curve::Curve;
+pub use curve::CurveDebug;
+pub use curve::CurvePartialEq;
+pub use curve::Rate;
+pub use curve::bytes::CurveContent;
+pub use curve::bytes::CurveDisplay;
+pub use quote::Quote;
+pub use quote::QuoteDebug;
+pub use quote::QuotePartialEq;
+pub use quote::bytes::QuoteContent;
+pub use quote::bytes::QuoteDisplay;
+
+/// The most bytes that a content may take; in a table each content has that many.
 pub const WIDEST: usize = 16;
 
 /// A kind of content. Its values are known by their bytes: `meaning` says which these are, `reads` which value bytes stand for.
@@ -27,7 +39,7 @@ pub trait Content: Sized + Drop {
 
     law least: { 1 ≤ width };
 
-    law most: { width ≤ 16 };
+    law most: { width ≤ widest };
 
     law sized: { (content : Self) → length (meaning content) ≡ width };
 
@@ -43,7 +55,7 @@ pub trait Content: Sized + Drop {
         ensures { λ r. ⌜ r ≡ width ⌝ };
 
     /// The bytes of this value, then zeros up to 16: so it lies in a table.
-    fn to_bytes(&self) -> [u8; 16]
+    fn to_bytes(&self) -> [u8; WIDEST]
         ensures { λ r. ⌜ r ≡ padded (meaning (now (self .entry))) ⌝ };
 
     /// The value that these bytes stand for; none if they are not of this kind, as at every other length than the width.
@@ -60,7 +72,7 @@ pub fn read_back<C: Content>(content: &C) -> Option<C>
 }
 
 /// Reads bytes and writes again what they stand for: the same bytes, then zeros up to 16; none if they are not of this kind.
-pub fn write_back<C: Content>(part: &[u8]) -> Option<[u8; 16]>
+pub fn write_back<C: Content>(part: &[u8]) -> Option<[u8; WIDEST]>
     ensures { λ r. ⌜ r ≡ mapped (λ _. padded (now (part .entry))) (reads (now (part .entry))) ⌝ }
 {
     match C::from_bytes(part) {

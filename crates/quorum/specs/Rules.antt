@@ -25,13 +25,17 @@ weight (w ∷ ws) set = cond (member 0 set) w 0 + weight ws (set / 2)
 abbrev pub heavier-half : List ℕ → ℕ → ℕ → Bool
 heavier-half weights size set = in-bounds size set && ltb (weight weights (everyone size)) (2 * weight weights set)
 
-abbrev pub at-most-hundred : List ℕ → Bool
-at-most-hundred [] = true
-at-most-hundred (w ∷ ws) = leb w 100 && at-most-hundred ws
+-- the most that one place may weigh
+abbrev pub heaviest : ℕ
+heaviest = 100
+
+abbrev pub none-too-heavy : List ℕ → Bool
+none-too-heavy [] = true
+none-too-heavy (w ∷ ws) = leb w heaviest && none-too-heavy ws
 
 -- which weights make a rule: the first at least 1, none above 100
 abbrev pub weighted : List ℕ → Result (List ℕ) Refusal
-weighted weights = cond (leb 1 (getD weights 0 0) && at-most-hundred weights) (Ok weights) (Err Unlawful)
+weighted weights = cond (leb 1 (getD weights 0 0) && none-too-heavy weights) (Ok weights) (Err Unlawful)
 
 -- a rule that was made or refused, by its weights
 abbrev pub rule-weights : Result Weighted Refusal → Result (List ℕ) Refusal

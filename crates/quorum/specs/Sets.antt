@@ -4,6 +4,10 @@ use mathlib.Core.Path.{_≡_}
 use Prim.Native.Nat.{ℕ, _-_, _/_, _%_, _^_, _<_}
 use lib.Dec.{eqb, leb, ltb}
 
+-- the most members of a group
+abbrev pub largest-group : ℕ
+largest-group = 7
+
 abbrev pub member : ℕ → ℕ → Bool
 member place set = eqb (set / 2 ^ place % 2) 1
 
@@ -13,7 +17,7 @@ everyone size = 2 ^ size - 1
 
 -- the size is 1 to 7, and the set has only places below it
 abbrev pub in-bounds : ℕ → ℕ → Bool
-in-bounds size set = (leb 1 size && leb size 7) && ltb set (2 ^ size)
+in-bounds size set = (leb 1 size && leb size largest-group) && ltb set (2 ^ size)
 
 -- some place below the size is in both sets
 abbrev pub Share : ℕ → ℕ → ℕ → Type 0

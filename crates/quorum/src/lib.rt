@@ -2,7 +2,7 @@
 ghost use mathlib.Core.Path.{_≡_};
 ghost use mathlib.Core.Bool.{Bool, true};
 ghost use Prim.Native.Nat.{ℕ, _≤_};
-ghost use Rattle.quorum.specs.Sets.{in-bounds, everyone, Share};
+ghost use Rattle.quorum.specs.Sets.{largest-group, in-bounds, everyone, Share};
 
 mod majority;
 mod sets;
@@ -12,6 +12,12 @@ pub use majority::Majority;
 pub use majority::MajorityRule;
 pub use weighted::Weighted;
 pub use weighted::rule::WeightedRule;
+
+/// The most members of a group.
+pub const LARGEST_GROUP: usize = 7;
+
+/// The most that one place may weigh.
+pub const HEAVIEST: u8 = 100;
 
 /// A quorum rule. A group has a size of 1 to 7; its places are counted from 0, and place i is bit i of a set.
 /// A rule need not favour the larger set: one that wins may be part of one that loses.
@@ -26,7 +32,7 @@ pub trait QuorumRule {
     law meet: { (rule : Self) (size one other : ℕ) → winning rule size one ≡ true → winning rule size other ≡ true → Share size one other };
 
     /// All places together win.
-    law all: { (rule : Self) (size : ℕ) → 1 ≤ size → size ≤ 7 → winning rule size (everyone size) ≡ true };
+    law all: { (rule : Self) (size : ℕ) → 1 ≤ size → size ≤ largest-group → winning rule size (everyone size) ≡ true };
 
     /// Whether the set wins at the size.
     fn wins(&self, size: u8, set: u8) -> bool

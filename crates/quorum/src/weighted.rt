@@ -2,13 +2,14 @@
 ghost use mathlib.Core.Path.{_≡_};
 ghost use Prim.Native.Nat.{ℕ, _≤_};
 ghost use lib.ListN.{length, getD};
+use crate::LARGEST_GROUP;
 
 pub mod rule;
 
 /// A set wins if it has more than half of the weight. Each place weighs 0 to 100, the first at least 1: there is no other such rule.
 #[derive(Clone, Copy, Debug)]
 pub struct Weighted {
-    weights: [u8; 7],
+    weights: [u8; LARGEST_GROUP],
     ghost seven: { length weights ≡ 7 },
     ghost first: { 1 ≤ getD weights 0 0 },
     ghost light: { (place : ℕ) → getD weights place 0 ≤ 100 },

@@ -7,6 +7,7 @@ ghost use Rattle.std.specs.declared.option.Option.the-variants.{Some};
 ghost use Rattle.content.specs.Bytes.{four-at};
 ghost use Rattle.content.specs.Curve.{rate-of, rates, curve-bytes, curve-read, shown-curve};
 use crate::Content;
+use crate::WIDEST;
 use crate::curve::Curve;
 use crate::curve::Rate;
 use std::fmt;
@@ -36,7 +37,7 @@ pub impl Content for Curve as CurveContent {
         16
     }
 
-    fn to_bytes(&self) -> [u8; 16] {
+    fn to_bytes(&self) -> [u8; WIDEST] {
         let [a0, a1, a2, a3] = self.first.value.to_be_bytes();
         let [b0, b1, b2, b3] = self.second.value.to_be_bytes();
         let [c0, c1, c2, c3] = self.third.value.to_be_bytes();

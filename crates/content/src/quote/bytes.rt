@@ -5,6 +5,7 @@ ghost use Rattle.refusal.specs.declared.Refusal.the-variants.{Unlawful};
 ghost use Rattle.std.specs.declared.option.Option.the-variants.{Some};
 ghost use Rattle.content.specs.Quote.{quoted, quote-bytes, quote-read, shown-quote};
 use crate::Content;
+use crate::WIDEST;
 use crate::quote::Quote;
 use refusal::Refusal;
 use std::fmt;
@@ -32,7 +33,7 @@ pub impl Content for Quote as QuoteContent {
         8
     }
 
-    fn to_bytes(&self) -> [u8; 16] {
+    fn to_bytes(&self) -> [u8; WIDEST] {
         let [b0, b1, b2, b3] = self.bid.to_be_bytes();
         let [a0, a1, a2, a3] = self.ask.to_be_bytes();
         [b0, b1, b2, b3, a0, a1, a2, a3, 0, 0, 0, 0, 0, 0, 0, 0]

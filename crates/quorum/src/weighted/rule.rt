@@ -1,7 +1,9 @@
 //! How a weighted rule is made and asked.
 ghost use mathlib.Core.Path.{_≡_};
 ghost use Prim.Native.Nat.{_≤_};
-ghost use Rattle.quorum.specs.Rules.{at-most-hundred, weighted, weight, heavier-half, rule-weights};
+ghost use Rattle.quorum.specs.Rules.{none-too-heavy, weighted, weight, heavier-half, rule-weights};
+use crate::HEAVIEST;
+use crate::LARGEST_GROUP;
 use crate::QuorumRule;
 use crate::sets::everyone;
 use crate::sets::within;
@@ -10,7 +12,7 @@ use refusal::Refusal;
 
 impl Weighted {
     /// The rule with these weights, as `Weighted::new([3, 1, 1, 0, 0, 0, 0])?`; refused if the first is 0 or one is above 100.
-    pub fn new(weights: [u8; 7]) -> Result<Weighted, Refusal>
+    pub fn new(weights: [u8; LARGEST_GROUP]) -> Result<Weighted, Refusal>
         ensures { λ r. ⌜ rule-weights r ≡ weighted weights ⌝ }
     {
         if weights[0] < 1 || !light(&weights) {
@@ -49,10 +51,10 @@ pub impl QuorumRule for Weighted as WeightedRule {
 
 // Whether no weight is above 100.
 fn light(weights: &[u8]) -> bool
-    ensures { λ r. ⌜ r ≡ at-most-hundred (now (weights .entry)) ⌝ }
+    ensures { λ r. ⌜ r ≡ none-too-heavy (now (weights .entry)) ⌝ }
 {
     for weight in weights {
-        if *weight > 100 {
+        if *weight > HEAVIEST {
             return false;
         }
     }

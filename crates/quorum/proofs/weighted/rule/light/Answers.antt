@@ -2,12 +2,12 @@ use borrow.Author.Needs.{needs}
 use native.Mathlib.Omega.{arith}
 use Rattle.std.proofs.shelf.Ways.{tells}
 use Rattle.std.proofs.shelf.Lists.{at-drop-all}
-use Rattle.quorum.specs.Rules.{at-most-hundred}
+use Rattle.quorum.specs.Rules.{none-too-heavy}
 use Rattle.quorum.proofs.Weights.{light-more}
 use Rattle.quorum.proofs.weighted.rule.light.Needs as need
 
-pub returns-then-weight-gt100 : need.returns-then-weight-gt100
-returns-then-weight-gt100 c =
+pub returns-then-weight-gt-HEAVIEST : need.returns-then-weight-gt-HEAVIEST
+returns-then-weight-gt-HEAVIEST c =
     let step = light-more (c .args .weights .now) (c .loop-weight .weight-index) (c .loop-weight-test .taken) in
     let left = c .loop-weight .inv in
     grind (arith, tells)
@@ -20,6 +20,6 @@ loop-weight-again c =
 
 pub returns : need.returns
 returns c =
-    let none = at-drop-all at-most-hundred (c .args .weights .now) (c .loop-weight .weight-index) (c .loop-weight-test .left) in
+    let none = at-drop-all none-too-heavy (c .args .weights .now) (c .loop-weight .weight-index) (c .loop-weight-test .left) in
     let left = c .loop-weight .inv in
     cc

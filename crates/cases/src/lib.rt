@@ -1,0 +1,65 @@
+//! The worked examples of docs/, proved as one list, and run.
+ghost use Rattle.cases.specs.Examples.{Worked-examples};
+
+/// Every worked example comes out as it is written down.
+pub fn examples_stand()
+    ensures { λ _. ⌜ Worked-examples ⌝ }
+{}
+
+#[cfg(test)]
+mod tests {
+    use content::Content;
+    use content::Quote;
+    use content::QuoteContent;
+    use content::QuoteDebug;
+    use content::QuotePartialEq;
+    use content::read_back;
+    use quorum::Majority;
+    use quorum::MajorityRule;
+    use quorum::QuorumRule;
+    use quorum::Weighted;
+    use quorum::WeightedRule;
+    use refusal::Refusal;
+    use refusal::RefusalDebug;
+    use std::test::*;
+
+    #[test]
+    fn majority_of_four() -> Result<(), Fail> {
+        for set in 0..16u8 {
+            check_eq(Majority.wins(4, set), set.count_ones() >= 3)?;
+        }
+        check(!Majority.wins(4, 16 + 7))?;
+        check(!Majority.wins(0, 0))?;
+        check(!Majority.wins(8, 255))
+    }
+
+    #[test]
+    fn first_of_three_outweighs() -> Result<(), Fail> {
+        let rule = Weighted::new([3, 1, 1, 0, 0, 0, 0])?;
+        check(rule.wins(3, 1))?;
+        check(!rule.wins(3, 6))?;
+        check(!rule.wins(3, 8 + 1))?;
+        check(Weighted::new([0, 1, 1, 0, 0, 0, 0]).is_err())?;
+        check(Weighted::new([3, 1, 101, 0, 0, 0, 0]).is_err())
+    }
+
+    #[test]
+    fn quote_and_its_bytes() -> Result<(), Fail> {
+        let quote = Quote::new(500, 510)?;
+        check_eq(
+            quote.to_bytes(),
+            [0, 0, 0x01, 0xF4, 0, 0, 0x01, 0xFE, 0, 0, 0, 0, 0, 0, 0, 0],
+        )?;
+        check_eq(read_back(&quote), Some(quote))?;
+        check(Quote::new(510, 500).is_err())?;
+        check_eq(
+            Quote::from_bytes(&[0, 0, 0x01, 0xFE, 0, 0, 0x01, 0xF4]),
+            None,
+        )
+    }
+
+    #[test]
+    fn refusals_have_numbers() -> Result<(), Fail> {
+        check_eq(Refusal::Unlawful.number(), 13)
+    }
+}

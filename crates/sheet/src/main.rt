@@ -1,0 +1,114 @@
+//! Answers requests about contents and quorum rules, a line each on standard input, by the library.
+ghost use Prim.Native.Nat.{_≤_};
+ghost use Rattle.quorum.specs.Sets.{largest-group};
+
+mod request;
+mod text;
+
+use content::Content;
+use content::Curve;
+use content::CurveContent;
+use content::CurveDisplay;
+use content::Quote;
+use content::QuoteContent;
+use content::QuoteDisplay;
+use content::read_back;
+use quorum::LARGEST_GROUP;
+use quorum::Majority;
+use quorum::MajorityRule;
+use quorum::QuorumRule;
+use quorum::Weighted;
+use quorum::WeightedRule;
+use refusal::Refusal;
+use refusal::RefusalDisplay;
+use request::Request;
+use request::parse;
+use std::fmt::Display;
+use std::io;
+use text::Hexadecimal;
+use text::HexadecimalDisplay;
+use text::Places;
+use text::PlacesDisplay;
+
+fn main(rt: LibcRuntime) -> io::Result<()> {
+    for line in rt.lines(rt.alloc()) {
+        let line = line?;
+        let request = line.as_str();
+        println!(rt, "{request}")?;
+        answer(&rt, parse(request))?;
+    }
+    Ok(())
+}
+
+fn answer(rt: &LibcRuntime, request: Request) -> io::Result<()> {
+    match request {
+        Request::Comment => Ok(()),
+        Request::Quote { bid, ask } => made(rt, Quote::new(bid, ask)),
+        Request::QuoteBytes { bytes } => quote_bytes(rt, bytes),
+        Request::Curve { rates } => curve(rt, rates),
+        Request::Majority { size } => group(rt, &Majority, size),
+        Request::Weighted { weights, size } => weighted_group(rt, weights, size),
+        Request::Unknown => println!(rt, "    not understood"),
+    }
+}
+
+// The bytes of a content that was made, and what they read back as; or why none was made.
+fn made<C: Content + Display>(rt: &LibcRuntime, made: Result<C, Refusal>) -> io::Result<()> {
+    match made {
+        Ok(content) => {
+            let bytes = content.to_bytes();
+            let hexadecimal = Hexadecimal(&bytes[0..C::width()]);
+            println!(rt, "    bytes {hexadecimal}")?;
+            read(rt, read_back(&content))
+        }
+        Err(refusal) => println!(rt, "    refused {refusal}"),
+    }
+}
+
+fn curve(rt: &LibcRuntime, rates: [i32; 4]) -> io::Result<()> {
+    let [first, second, third, fourth] = rates;
+    made(rt, Ok(Curve::new(first, second, third, fourth)))
+}
+
+fn quote_bytes(rt: &LibcRuntime, bytes: [u8; 8]) -> io::Result<()> {
+    read(rt, Quote::from_bytes(&bytes))
+}
+
+// What bytes were read as.
+fn read<C: Content + Display>(rt: &LibcRuntime, content: Option<C>) -> io::Result<()> {
+    match content {
+        Some(content) => println!(rt, "    reads {content}"),
+        None => println!(rt, "    none of its own"),
+    }
+}
+
+fn weighted_group(rt: &LibcRuntime, weights: [u8; LARGEST_GROUP], size: u8) -> io::Result<()> {
+    match Weighted::new(weights) {
+        Ok(rule) => group(rt, &rule, size),
+        Err(refusal) => println!(rt, "    refused {refusal}"),
+    }
+}
+
+// Which sets of acknowledgements win in a group of this size, and which lose.
+fn group<Q: QuorumRule>(rt: &LibcRuntime, rule: &Q, size: u8) -> io::Result<()> {
+    if size < 1 || usize::from(size) > LARGEST_GROUP {
+        return println!(rt, "    no group has this size");
+    }
+    print!(rt, "    wins ")?;
+    sets(rt, rule, size, true)?;
+    print!(rt, "    loses")?;
+    sets(rt, rule, size, false)
+}
+
+// The sets of places below the size that win, or those that lose, on a line.
+fn sets<Q: QuorumRule>(rt: &LibcRuntime, rule: &Q, size: u8, winning: bool) -> io::Result<()>
+    requires { ⌜ size ≤ largest-group ⌝ }
+{
+    for set in 1..1u8 << size {
+        if rule.wins(size, set) == winning {
+            let places = Places(set);
+            print!(rt, " {places}")?;
+        }
+    }
+    println!(rt, "")
+}

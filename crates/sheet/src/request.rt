@@ -1,0 +1,83 @@
+//! Requests, as they stand on a line.
+use std::str::SplitWhitespace;
+
+/// What a line asks for.
+#[derive(Clone, Copy, Debug)]
+pub enum Request {
+    /// an empty line, or one that begins with '#'
+    Comment,
+    /// `quote BID ASK`: make it, write it, read it back
+    Quote { bid: u32, ask: u32 },
+    /// `bytes HH HH HH HH HH HH HH HH`: read a quote
+    QuoteBytes { bytes: [u8; 8] },
+    /// `curve RATE RATE RATE RATE`: make it, write it, read it back
+    Curve { rates: [i32; 4] },
+    /// `majority SIZE`: which sets win
+    Majority { size: u8 },
+    /// `weighted WEIGHT ..`: which sets win in a group with a place for each weight
+    Weighted { weights: [u8; 7], size: u8 },
+    Unknown,
+}
+
+/// What the line asks for.
+pub(crate) fn parse(line: &str) -> Request {
+    let mut words = line.split_whitespace();
+    let Some(first) = words.next() else {
+        return Request::Comment;
+    };
+    if first.starts_with('#') {
+        return Request::Comment;
+    }
+    let asked = match first {
+        "quote" => quote(&mut words),
+        "bytes" => quote_bytes(&mut words),
+        "curve" => curve(&mut words),
+        "majority" => majority(&mut words),
+        "weighted" => weighted(&mut words),
+        _ => None,
+    };
+    match (asked, words.next()) {
+        (Some(request), None) => request,
+        _ => Request::Unknown,
+    }
+}
+
+fn quote(words: &mut SplitWhitespace<'_>) -> Option<Request> {
+    let bid = words.next()?.parse::<u32>().ok()?;
+    let ask = words.next()?.parse::<u32>().ok()?;
+    Some(Request::Quote { bid, ask })
+}
+
+fn quote_bytes(words: &mut SplitWhitespace<'_>) -> Option<Request> {
+    let mut bytes = [0; 8];
+    for byte in bytes.iter_mut() {
+        *byte = u8::from_str_radix(words.next()?, 16).ok()?;
+    }
+    Some(Request::QuoteBytes { bytes })
+}
+
+fn curve(words: &mut SplitWhitespace<'_>) -> Option<Request> {
+    let mut rates = [0; 4];
+    for rate in rates.iter_mut() {
+        *rate = words.next()?.parse::<i32>().ok()?;
+    }
+    Some(Request::Curve { rates })
+}
+
+fn majority(words: &mut SplitWhitespace<'_>) -> Option<Request> {
+    let size = words.next()?.parse::<u8>().ok()?;
+    Some(Request::Majority { size })
+}
+
+fn weighted(words: &mut SplitWhitespace<'_>) -> Option<Request> {
+    let mut weights = [0; 7];
+    let mut size = 0;
+    for weight in weights.iter_mut() {
+        let Some(word) = words.next() else {
+            break;
+        };
+        *weight = word.parse::<u8>().ok()?;
+        size += 1;
+    }
+    Some(Request::Weighted { weights, size })
+}
