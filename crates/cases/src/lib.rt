@@ -1,10 +1,25 @@
 //! The worked examples of docs/, proved as one list, and run.
+ghost use mathlib.Core.Path.{_≡_};
+ghost use mathlib.Core.Bool.{true};
 ghost use Rattle.cases.specs.Examples.{Worked-examples};
+use quorum::Majority;
+use quorum::MajorityRule;
+use quorum::QuorumRule;
+use quorum::Weighted;
+use quorum::WeightedRule;
 
-/// Every worked example comes out as it is written down.
-pub fn examples_stand()
-    ensures { λ _. ⌜ Worked-examples ⌝ }
-{}
+/// Every worked example comes out as it is written down; the rules among them are asked, too.
+pub fn examples_stand() -> bool
+    ensures listed { λ _. ⌜ Worked-examples ⌝ }
+    ensures asked { λ r. ⌜ r ≡ true ⌝ }
+{
+    let Ok(weighted) = Weighted::new([3, 1, 1, 0, 0, 0, 0]) else {
+        return false;
+    };
+    let majority = !Majority.wins(4, 0b0011) & Majority.wins(4, 0b0111);
+    let weights = weighted.wins(3, 0b001) & !weighted.wins(3, 0b110);
+    majority & weights
+}
 
 #[cfg(test)]
 mod tests {

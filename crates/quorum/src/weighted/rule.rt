@@ -53,10 +53,9 @@ pub impl QuorumRule for Weighted as WeightedRule {
 fn light(weights: &[u8]) -> bool
     ensures { λ r. ⌜ r ≡ none-too-heavy (now (weights .entry)) ⌝ }
 {
+    let mut all = true;
     for weight in weights {
-        if *weight > HEAVIEST {
-            return false;
-        }
+        all = all & (*weight <= HEAVIEST);
     }
-    true
+    all
 }

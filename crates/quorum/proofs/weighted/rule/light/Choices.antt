@@ -1,8 +1,9 @@
--- What is left decides.
+-- What was seen and what is left decide together.
+use mathlib.Core.Bool.{_&&_}
 use mathlib.Core.Path.{_≡_}
 use lib.ListN.{drop}
 use Rattle.quorum.specs.Rules.{none-too-heavy}
 use Rattle.quorum.proofs.weighted.rule.light.Given as given
 
 abbrev pub Inv-loop-weight : given.InvT-loop-weight
-Inv-loop-weight l = none-too-heavy (drop (l .weight-index) (l .weights)) ≡ none-too-heavy (l .weights)
+Inv-loop-weight l = (l .all && none-too-heavy (drop (l .weight-index) (l .weights))) ≡ none-too-heavy (l .weights)
