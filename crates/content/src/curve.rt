@@ -1,4 +1,4 @@
-//! A curve: four rates, for four terms.
+//! A curve: four rates.
 ghost use Prim.Native.Nat.{_<_, _^_};
 ghost use lib.Signed.{mag};
 
@@ -12,7 +12,7 @@ pub struct Rate {
     ghost fits: { mag value < 2 ^ 31 },
 }
 
-/// Four rates, the shortest term first.
+/// Four rates, in the order in which they are written.
 #[derive(Clone, Copy, Debug, PartialEq, Eq)]
 pub struct Curve {
     pub first: Rate,

@@ -26,7 +26,7 @@ pub use quote::bytes::QuoteDisplay;
 /// The most bytes that a content may take; in a table each content has that many.
 pub const WIDEST: usize = 16;
 
-/// A kind of content. Its values are known by their bytes: `meaning` says which these are, `reads` which value bytes stand for.
+/// A kind of content. A value is known by its bytes: `meaning` says which these are, `reads` which value bytes stand for.
 pub trait Content: Sized + Drop {
     /// how many bytes each value of this kind takes
     ghost width: { ℕ };
@@ -37,13 +37,13 @@ pub trait Content: Sized + Drop {
     /// the value that bytes stand for, or none
     ghost reads: { List ℕ → Option Self };
 
-    law least: { 1 ≤ width };
+    law width_positive: { 1 ≤ width };
 
-    law most: { width ≤ widest };
+    law width_bounded: { width ≤ widest };
 
-    law sized: { (content : Self) → length (meaning content) ≡ width };
+    law meaning_fills_width: { (content : Self) → length (meaning content) ≡ width };
 
-    law bytes: { (content : Self) → AllBytes (meaning content) };
+    law meaning_is_bytes: { (content : Self) → AllBytes (meaning content) };
 
     /// Reading what was written gives it back.
     law reads_written: { (content : Self) → reads (meaning content) ≡ Some content };
@@ -51,14 +51,15 @@ pub trait Content: Sized + Drop {
     /// Writing what was read gives those bytes.
     law writes_read: { (bytes : List ℕ) (content : Self) → AllBytes bytes → reads bytes ≡ Some content → meaning content ≡ bytes };
 
+    /// How many bytes each value of this kind takes: `Quote::width()` is 8.
     fn width() -> usize
         ensures { λ r. ⌜ r ≡ width ⌝ };
 
-    /// The bytes of this value, then zeros up to 16: so it lies in a table.
+    /// The bytes of this value, then zeros up to 16: so it lies in a table. The bytes alone are `&content.to_bytes()[0..C::width()]`.
     fn to_bytes(&self) -> [u8; WIDEST]
         ensures { λ r. ⌜ r ≡ padded (meaning (now (self .entry))) ⌝ };
 
-    /// The value that these bytes stand for; none if they are not of this kind, as at every other length than the width.
+    /// The value that these bytes stand for, or none: `Quote::from_bytes(&[0, 0, 0, 2, 0, 0, 0, 1])` is none.
     fn from_bytes(part: &[u8]) -> Option<Self>
         ensures { λ r. ⌜ r ≡ reads (now (part .entry)) ⌝ };
 }

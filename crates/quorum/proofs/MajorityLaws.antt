@@ -8,6 +8,7 @@ use lib.Count.{ones, ones-step, ones-le, ones-ones}
 use lib.ListN.{replicate}
 use lib.Pow.{pow-pos}
 use Rattle.std.proofs.shelf.Ways.{tells}
+use Rattle.quorum.specs.Limits.{largest-group}
 use Rattle.quorum.specs.Sets.{member, everyone, Share}
 use Rattle.quorum.specs.Rules.{more-than-half, weight}
 use Rattle.quorum.proofs.Meeting.{halves-share}
@@ -33,7 +34,7 @@ majorities-meet size a b a-wins b-wins =
     let total = weight-members size (everyone size) (omega arith) ∙ ones-ones size in
     halves-share (replicate size 1) size a b a-below b-below (omega arith) (omega arith)
 
-pub everyone-is-majority : (size : ℕ) → 1 ≤ size → size ≤ 7 → more-than-half size (everyone size) ≡ true
+pub everyone-is-majority : (size : ℕ) → 1 ≤ size → size ≤ largest-group → more-than-half size (everyone size) ≡ true
 everyone-is-majority size least most =
     let members = ones-ones size in
     let some : 0 < 2 ^ size = pow-pos size in

@@ -9,6 +9,7 @@ use lib.ListN.{getD}
 use lib.Pow.{pow-pos}
 use Rattle.std.proofs.shelf.Tests.{cond-true}
 use Rattle.std.proofs.shelf.Ways.{tells}
+use Rattle.quorum.specs.Limits.{largest-group}
 use Rattle.quorum.specs.Sets.{member, everyone, Share}
 use Rattle.quorum.specs.Rules.{weight, heavier-half}
 use Rattle.quorum.proofs.Meeting.{halves-share, first-of-everyone}
@@ -23,7 +24,7 @@ some-weight [] size first least = absurd (omega arith)
 some-weight (w ∷ ws) zero first least = absurd (omega arith)
 some-weight (w ∷ ws) (suc n) first least = omega (arith, cond-true (member 0 (everyone (suc n))) w 0 (first-of-everyone n))
 
-pub everyone-is-heavier-half : (ws : List ℕ) (size : ℕ) → 1 ≤ getD ws 0 0 → 1 ≤ size → size ≤ 7 → heavier-half ws size (everyone size) ≡ true
+pub everyone-is-heavier-half : (ws : List ℕ) (size : ℕ) → 1 ≤ getD ws 0 0 → 1 ≤ size → size ≤ largest-group → heavier-half ws size (everyone size) ≡ true
 everyone-is-heavier-half ws size first least most =
     let heavy = some-weight ws size first least in
     let some : 0 < 2 ^ size = pow-pos size in

@@ -1,2 +1,3 @@
-pub mod Sets
+pub mod Limits
 pub mod Rules
+pub mod Sets

@@ -10,6 +10,7 @@ use Rattle.std.specs.declared.result.Result.the-variants.{Ok, Err}
 use Rattle.refusal.specs.declared.Refusal.{Refusal}
 use Rattle.refusal.specs.declared.Refusal.the-variants.{Unlawful}
 use Rattle.quorum.specs.declared.weighted.Weighted.{Weighted}
+use Rattle.quorum.specs.Limits.{heaviest}
 use Rattle.quorum.specs.Sets.{member, everyone, in-bounds}
 
 -- Majority: twice the members of the set exceed the size. `ones set` is the number of places in the set.
@@ -24,10 +25,6 @@ weight (w ∷ ws) set = cond (member 0 set) w 0 + weight ws (set / 2)
 -- Weighted: twice the set's weight exceeds the weight of all places below the size
 abbrev pub heavier-half : List ℕ → ℕ → ℕ → Bool
 heavier-half weights size set = in-bounds size set && ltb (weight weights (everyone size)) (2 * weight weights set)
-
--- the most that one place may weigh
-abbrev pub heaviest : ℕ
-heaviest = 100
 
 abbrev pub none-too-heavy : List ℕ → Bool
 none-too-heavy [] = true

@@ -3,10 +3,7 @@ use mathlib.Core.Bool.{Bool, true, _&&_}
 use mathlib.Core.Path.{_≡_}
 use Prim.Native.Nat.{ℕ, _-_, _/_, _%_, _^_, _<_}
 use lib.Dec.{eqb, leb, ltb}
-
--- the most members of a group
-abbrev pub largest-group : ℕ
-largest-group = 7
+use Rattle.quorum.specs.Limits.{largest-group}
 
 abbrev pub member : ℕ → ℕ → Bool
 member place set = eqb (set / 2 ^ place % 2) 1

@@ -2,7 +2,8 @@
 ghost use mathlib.Core.Path.{_≡_};
 ghost use mathlib.Core.Bool.{Bool, true};
 ghost use Prim.Native.Nat.{ℕ, _≤_};
-ghost use Rattle.quorum.specs.Sets.{largest-group, in-bounds, everyone, Share};
+ghost use Rattle.quorum.specs.Limits.{largest-group};
+ghost use Rattle.quorum.specs.Sets.{in-bounds, everyone, Share};
 
 mod majority;
 mod sets;
@@ -26,15 +27,15 @@ pub trait QuorumRule {
     ghost winning: { Self → ℕ → ℕ → Bool };
 
     /// Only a set of places below a size of 1 to 7 wins.
-    law bounded: { (rule : Self) (size set : ℕ) → winning rule size set ≡ true → in-bounds size set ≡ true };
+    law winners_in_bounds: { (rule : Self) (size set : ℕ) → winning rule size set ≡ true → in-bounds size set ≡ true };
 
     /// Two winning sets of one size share a place.
-    law meet: { (rule : Self) (size one other : ℕ) → winning rule size one ≡ true → winning rule size other ≡ true → Share size one other };
+    law winners_meet: { (rule : Self) (size one other : ℕ) → winning rule size one ≡ true → winning rule size other ≡ true → Share size one other };
 
     /// All places together win.
-    law all: { (rule : Self) (size : ℕ) → 1 ≤ size → size ≤ largest-group → winning rule size (everyone size) ≡ true };
+    law everyone_wins: { (rule : Self) (size : ℕ) → 1 ≤ size → size ≤ largest-group → winning rule size (everyone size) ≡ true };
 
-    /// Whether the set wins at the size.
+    /// Whether the set wins at the size: `Majority.wins(4, 0b0111)` is true.
     fn wins(&self, size: u8, set: u8) -> bool
         ensures { λ r. ⌜ r ≡ winning (now (self .entry)) size set ⌝ };
 }

@@ -1,7 +1,8 @@
 //! Sets of places.
 ghost use mathlib.Core.Path.{_≡_};
 ghost use Prim.Native.Nat.{_≤_};
-ghost use Rattle.quorum.specs.Sets.{largest-group, in-bounds, everyone as all-places};
+ghost use Rattle.quorum.specs.Limits.{largest-group};
+ghost use Rattle.quorum.specs.Sets.{in-bounds, everyone as all-places};
 use crate::LARGEST_GROUP;
 
 // Whether the size is 1 to 7 and the set has only places below it.

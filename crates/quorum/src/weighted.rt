@@ -2,6 +2,7 @@
 ghost use mathlib.Core.Path.{_≡_};
 ghost use Prim.Native.Nat.{ℕ, _≤_};
 ghost use lib.ListN.{length, getD};
+ghost use Rattle.quorum.specs.Limits.{largest-group, heaviest};
 use crate::LARGEST_GROUP;
 
 pub mod rule;
@@ -10,7 +11,7 @@ pub mod rule;
 #[derive(Clone, Copy, Debug)]
 pub struct Weighted {
     weights: [u8; LARGEST_GROUP],
-    ghost seven: { length weights ≡ 7 },
+    ghost seven: { length weights ≡ largest-group },
     ghost first: { 1 ≤ getD weights 0 0 },
-    ghost light: { (place : ℕ) → getD weights place 0 ≤ 100 },
+    ghost light: { (place : ℕ) → getD weights place 0 ≤ heaviest },
 }

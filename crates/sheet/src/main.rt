@@ -1,6 +1,6 @@
 //! Answers requests about contents and quorum rules, a line each on standard input, by the library.
 ghost use Prim.Native.Nat.{_≤_};
-ghost use Rattle.quorum.specs.Sets.{largest-group};
+ghost use Rattle.quorum.specs.Limits.{largest-group};
 
 mod request;
 mod text;
@@ -43,65 +43,68 @@ fn main(rt: LibcRuntime) -> io::Result<()> {
 fn answer(rt: &LibcRuntime, request: Request) -> io::Result<()> {
     match request {
         Request::Comment => Ok(()),
-        Request::Quote { bid, ask } => made(rt, Quote::new(bid, ask)),
-        Request::QuoteBytes { bytes } => quote_bytes(rt, bytes),
-        Request::Curve { rates } => curve(rt, rates),
-        Request::Majority { size } => group(rt, &Majority, size),
-        Request::Weighted { weights, size } => weighted_group(rt, weights, size),
+        Request::Quote { bid, ask } => show_content(rt, Quote::new(bid, ask)),
+        Request::QuoteBytes { bytes } => show_quote_bytes(rt, bytes),
+        Request::Curve { rates } => show_curve(rt, rates),
+        Request::Majority { size } => show_group(rt, &Majority, size),
+        Request::Weighted { weights, size } => show_weighted_group(rt, weights, size),
         Request::Unknown => println!(rt, "    not understood"),
     }
 }
 
 // The bytes of a content that was made, and what they read back as; or why none was made.
-fn made<C: Content + Display>(rt: &LibcRuntime, made: Result<C, Refusal>) -> io::Result<()> {
+fn show_content<C: Content + Display>(
+    rt: &LibcRuntime,
+    made: Result<C, Refusal>,
+) -> io::Result<()> {
     match made {
         Ok(content) => {
             let bytes = content.to_bytes();
             let hexadecimal = Hexadecimal(&bytes[0..C::width()]);
             println!(rt, "    bytes {hexadecimal}")?;
-            read(rt, read_back(&content))
+            show_read(rt, read_back(&content))
         }
         Err(refusal) => println!(rt, "    refused {refusal}"),
     }
 }
 
-fn curve(rt: &LibcRuntime, rates: [i32; 4]) -> io::Result<()> {
+fn show_curve(rt: &LibcRuntime, rates: [i32; 4]) -> io::Result<()> {
     let [first, second, third, fourth] = rates;
-    made(rt, Ok(Curve::new(first, second, third, fourth)))
+    show_content(rt, Ok(Curve::new(first, second, third, fourth)))
 }
 
-fn quote_bytes(rt: &LibcRuntime, bytes: [u8; 8]) -> io::Result<()> {
-    read(rt, Quote::from_bytes(&bytes))
+fn show_quote_bytes(rt: &LibcRuntime, bytes: [u8; 8]) -> io::Result<()> {
+    show_read(rt, Quote::from_bytes(&bytes))
 }
 
 // What bytes were read as.
-fn read<C: Content + Display>(rt: &LibcRuntime, content: Option<C>) -> io::Result<()> {
+fn show_read<C: Content + Display>(rt: &LibcRuntime, content: Option<C>) -> io::Result<()> {
     match content {
         Some(content) => println!(rt, "    reads {content}"),
         None => println!(rt, "    none of its own"),
     }
 }
 
-fn weighted_group(rt: &LibcRuntime, weights: [u8; LARGEST_GROUP], size: u8) -> io::Result<()> {
+fn show_weighted_group(rt: &LibcRuntime, weights: [u8; LARGEST_GROUP], size: u8) -> io::Result<()> {
     match Weighted::new(weights) {
-        Ok(rule) => group(rt, &rule, size),
+        Ok(rule) => show_group(rt, &rule, size),
         Err(refusal) => println!(rt, "    refused {refusal}"),
     }
 }
 
 // Which sets of acknowledgements win in a group of this size, and which lose.
-fn group<Q: QuorumRule>(rt: &LibcRuntime, rule: &Q, size: u8) -> io::Result<()> {
+fn show_group<Q: QuorumRule>(rt: &LibcRuntime, rule: &Q, size: u8) -> io::Result<()> {
     if size < 1 || usize::from(size) > LARGEST_GROUP {
         return println!(rt, "    no group has this size");
     }
     print!(rt, "    wins ")?;
-    sets(rt, rule, size, true)?;
+    show_sets(rt, rule, size, true)?;
     print!(rt, "    loses")?;
-    sets(rt, rule, size, false)
+    show_sets(rt, rule, size, false)
 }
 
 // The sets of places below the size that win, or those that lose, on a line.
-fn sets<Q: QuorumRule>(rt: &LibcRuntime, rule: &Q, size: u8, winning: bool) -> io::Result<()>
+fn show_sets<Q: QuorumRule>(rt: &LibcRuntime, rule: &Q, size: u8, winning: bool) -> io::Result<()>
     requires { ⌜ size ≤ largest-group ⌝ }
 {
     for set in 1..1u8 << size {

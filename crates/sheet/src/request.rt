@@ -2,7 +2,7 @@
 use std::str::SplitWhitespace;
 
 /// What a line asks for.
-#[derive(Clone, Copy, Debug)]
+#[derive(Clone, Copy)]
 pub enum Request {
     /// an empty line, or one that begins with '#'
     Comment,

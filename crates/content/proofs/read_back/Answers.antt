@@ -10,6 +10,6 @@ use Rattle.content.proofs.read_back.Needs as need
 pub returns : need.returns
 returns g c =
     let written = g .C·Content .meaning (c .args .content .now) in
-    let long : length written ≡ c .width .result - 0 = let w = g .C·Content·met .sized (c .args .content .now) in let e = c .width .ensures in omega arith in
+    let long : length written ≡ c .width .result - 0 = let w = g .C·Content·met .«meaning_fills_width» (c .args .content .now) in let e = c .width .ensures in omega arith in
     let front = ap (λ (l : List ℕ). take (c .width .result - 0) l) (c .to-bytes-bytes .ensures) ∙ front-of-padded written _ long in
     c .from-bytes .ensures ∙ ap (g .C·Content .reads) front ∙ g .C·Content·met .«reads_written» (c .args .content .now)

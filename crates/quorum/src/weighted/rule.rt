@@ -1,6 +1,7 @@
 //! How a weighted rule is made and asked.
 ghost use mathlib.Core.Path.{_≡_};
-ghost use Prim.Native.Nat.{_≤_};
+ghost use Prim.Native.Nat.{_*_, _≤_};
+ghost use Rattle.quorum.specs.Limits.{largest-group, heaviest};
 ghost use Rattle.quorum.specs.Rules.{none-too-heavy, weighted, weight, heavier-half, rule-weights};
 use crate::HEAVIEST;
 use crate::LARGEST_GROUP;
@@ -24,7 +25,7 @@ impl Weighted {
     // The weight of a set.
     fn weight(&self, set: u8) -> u16
         ensures value { λ r. ⌜ r ≡ weight (now (self .entry) .weights) set ⌝ }
-        ensures bound { λ r. ⌜ r ≤ 700 ⌝ }
+        ensures bound { λ r. ⌜ r ≤ heaviest * largest-group ⌝ }
     {
         let mut sum = 0;
         let mut rest = set;
