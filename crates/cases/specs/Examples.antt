@@ -6,7 +6,7 @@ use Prim.Native.Nat.{ℕ, _<_}
 use lib.Count.{ones}
 use Rattle.std.specs.Options.{mapped}
 use Rattle.std.specs.declared.option.Option.the-variants.{Some}
-use Rattle.content.specs.Quote.{quoted, quote-bytes}
+use Rattle.quote.specs.Quote.{quoted, quote-bytes}
 use Rattle.quorum.specs.Rules.{more-than-half, heavier-half}
 
 -- a group of three whose first place weighs 3, the others 1 each

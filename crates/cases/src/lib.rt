@@ -24,16 +24,16 @@ pub fn examples_stand() -> bool
 #[cfg(test)]
 mod tests {
     use content::Content;
-    use content::Quote;
-    use content::QuoteContent;
-    use content::QuoteDebug;
-    use content::QuotePartialEq;
     use content::read_back;
     use quorum::Majority;
     use quorum::MajorityRule;
     use quorum::QuorumRule;
     use quorum::Weighted;
     use quorum::WeightedRule;
+    use quote::Quote;
+    use quote::QuoteContent;
+    use quote::QuoteDebug;
+    use quote::QuotePartialEq;
     use refusal::Refusal;
     use refusal::RefusalDebug;
     use std::test::*;

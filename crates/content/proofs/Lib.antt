@@ -1,4 +1,2 @@
 pub mod FourBytes
 pub mod Padded
-mod QuoteLaws
-mod CurveLaws

@@ -1,4 +1,4 @@
-//! What a price sheet may hold: the interface that a kind of content keeps, and the two kinds that come with the library.
+//! What a price sheet may hold: the interface that a kind of content keeps.
 ghost use mathlib.Core.Path.{_≡_};
 ghost use mathlib.Core.List.{List};
 ghost use Prim.Native.Nat.{ℕ, _≤_};
@@ -7,21 +7,6 @@ ghost use Rattle.std.specs.Options.{mapped};
 ghost use Rattle.std.specs.declared.option.Option.{Option};
 ghost use Rattle.std.specs.declared.option.Option.the-variants.{Some};
 ghost use Rattle.content.specs.Bytes.{AllBytes, padded, widest};
-
-mod curve;
-mod quote;
-
-pub use curve::Curve;
-pub use curve::CurveDebug;
-pub use curve::CurvePartialEq;
-pub use curve::Rate;
-pub use curve::bytes::CurveContent;
-pub use curve::bytes::CurveDisplay;
-pub use quote::Quote;
-pub use quote::QuoteDebug;
-pub use quote::QuotePartialEq;
-pub use quote::bytes::QuoteContent;
-pub use quote::bytes::QuoteDisplay;
 
 /// The most bytes that a content may take; in a table each content has that many.
 pub const WIDEST: usize = 16;

@@ -1,7 +1,7 @@
 -- The majority is the rule of equal weights.
-use mathlib.Core.Path.{_≡_, refl, sym, ap, _∙_}
-use mathlib.Core.Bool.{Bool, true, false, cond}
-use Prim.Native.Nat.{ℕ, zero, suc, _+_, _-_, _*_, _/_, _%_, _^_, _≤_, _<_}
+use mathlib.Core.Path.{_≡_, _∙_}
+use mathlib.Core.Bool.{true}
+use Prim.Native.Nat.{ℕ, zero, suc, _*_, _/_, _^_, _≤_, _<_}
 use native.Mathlib.Nat.{pow-suc}
 use native.Mathlib.Omega.{arith}
 use lib.Count.{ones, ones-step, ones-le, ones-ones}
@@ -9,7 +9,7 @@ use lib.ListN.{replicate}
 use lib.Pow.{pow-pos}
 use Rattle.std.proofs.shelf.Ways.{tells}
 use Rattle.quorum.specs.Limits.{largest-group}
-use Rattle.quorum.specs.Sets.{member, everyone, Share}
+use Rattle.quorum.specs.Sets.{everyone, Share}
 use Rattle.quorum.specs.Rules.{more-than-half, weight}
 use Rattle.quorum.proofs.Meeting.{halves-share}
 

@@ -1,4 +1,6 @@
 //! Requests, as they stand on a line.
+use std::num::ParseIntError;
+use std::str::FromStr;
 use std::str::SplitWhitespace;
 
 /// What a line asks for.
@@ -43,25 +45,16 @@ pub(crate) fn parse(line: &str) -> Request {
 }
 
 fn quote(words: &mut SplitWhitespace<'_>) -> Option<Request> {
-    let bid = words.next()?.parse::<u32>().ok()?;
-    let ask = words.next()?.parse::<u32>().ok()?;
-    Some(Request::Quote { bid, ask })
-}
-
-fn quote_bytes(words: &mut SplitWhitespace<'_>) -> Option<Request> {
-    let mut bytes = [0; 8];
-    for byte in bytes.iter_mut() {
-        *byte = u8::from_str_radix(words.next()?, 16).ok()?;
-    }
-    Some(Request::QuoteBytes { bytes })
+    let mut sides = [0u32; 2];
+    let count = numbers(words, &mut sides)?;
+    let [bid, ask] = sides;
+    if count == 2 { Some(Request::Quote { bid, ask }) } else { None }
 }
 
 fn curve(words: &mut SplitWhitespace<'_>) -> Option<Request> {
-    let mut rates = [0; 4];
-    for rate in rates.iter_mut() {
-        *rate = words.next()?.parse::<i32>().ok()?;
-    }
-    Some(Request::Curve { rates })
+    let mut rates = [0i32; 4];
+    let count = numbers(words, &mut rates)?;
+    if count == 4 { Some(Request::Curve { rates }) } else { None }
 }
 
 fn majority(words: &mut SplitWhitespace<'_>) -> Option<Request> {
@@ -70,14 +63,29 @@ fn majority(words: &mut SplitWhitespace<'_>) -> Option<Request> {
 }
 
 fn weighted(words: &mut SplitWhitespace<'_>) -> Option<Request> {
-    let mut weights = [0; 7];
-    let mut size = 0;
-    for weight in weights.iter_mut() {
+    let mut weights = [0u8; 7];
+    let count = numbers(words, &mut weights)?;
+    let size = u8::try_from(count).ok()?;
+    Some(Request::Weighted { weights, size })
+}
+
+// Fills the places with the numbers that come, as far as they go, and says how many came; none at a word that is no number.
+fn numbers<T: FromStr<Err = ParseIntError> + Drop>(words: &mut SplitWhitespace<'_>, places: &mut [T]) -> Option<usize> {
+    let mut count = 0usize;
+    for place in places.iter_mut() {
         let Some(word) = words.next() else {
             break;
         };
-        *weight = word.parse::<u8>().ok()?;
-        size += 1;
+        *place = word.parse::<T>().ok()?;
+        count += 1;
     }
-    Some(Request::Weighted { weights, size })
+    Some(count)
+}
+
+fn quote_bytes(words: &mut SplitWhitespace<'_>) -> Option<Request> {
+    let mut bytes = [0; 8];
+    for byte in bytes.iter_mut() {
+        *byte = u8::from_str_radix(words.next()?, 16).ok()?;
+    }
+    Some(Request::QuoteBytes { bytes })
 }

@@ -1,9 +1,6 @@
 -- The meaning of what was read is the bytes that it was read from.
-use mathlib.Core.Path.{_≡_, sym, ap, _∙_}
-use mathlib.Core.List.{List}
-use Prim.Native.Nat.{ℕ}
+use mathlib.Core.Path.{sym, ap, _∙_}
 use Rattle.std.specs.Options.{mapped}
-use Rattle.std.specs.declared.option.Option.{Option}
 use Rattle.std.specs.declared.option.Option.the-variants.{Some}
 use Rattle.content.specs.Bytes.{padded}
 use Rattle.content.proofs.Padded.{bytes-from-fits}

@@ -1,6 +1,5 @@
 -- The tests that were passed are the rule's bounds.
-use mathlib.Core.Path.{_≡_, refl, sym}
-use mathlib.Core.Bool.{Bool, true, false}
+use mathlib.Core.Path.{sym}
 use borrow.Author.Needs.{needs}
 use Rattle.quorum.proofs.Weights.{light-at}
 use Rattle.quorum.proofs.weighted.Weighted.new.Needs as need
