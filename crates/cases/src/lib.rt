@@ -25,6 +25,10 @@ pub fn examples_stand() -> bool
 mod tests {
     use content::Content;
     use content::read_back;
+    use curve::Curve;
+    use curve::CurveContent;
+    use curve::CurveDebug;
+    use curve::CurvePartialEq;
     use quorum::Majority;
     use quorum::MajorityRule;
     use quorum::QuorumRule;
@@ -37,6 +41,14 @@ mod tests {
     use refusal::Refusal;
     use refusal::RefusalDebug;
     use std::test::*;
+
+    // The number of the refusal, if it is one.
+    fn refused<T: Drop>(made: Result<T, Refusal>) -> Option<u8> {
+        match made {
+            Ok(_) => None,
+            Err(refusal) => Some(refusal.number()),
+        }
+    }
 
     #[test]
     fn majority_of_four() -> Result<(), Fail> {
@@ -54,8 +66,8 @@ mod tests {
         check(rule.wins(3, 1))?;
         check(!rule.wins(3, 6))?;
         check(!rule.wins(3, 8 + 1))?;
-        check(Weighted::new([0, 1, 1, 0, 0, 0, 0]).is_err())?;
-        check(Weighted::new([3, 1, 101, 0, 0, 0, 0]).is_err())
+        check_eq(refused(Weighted::new([0, 1, 1, 0, 0, 0, 0])), Some(13))?;
+        check_eq(refused(Weighted::new([3, 1, 101, 0, 0, 0, 0])), Some(13))
     }
 
     #[test]
@@ -66,7 +78,9 @@ mod tests {
             [0, 0, 0x01, 0xF4, 0, 0, 0x01, 0xFE, 0, 0, 0, 0, 0, 0, 0, 0],
         )?;
         check_eq(read_back(&quote), Some(quote))?;
-        check(Quote::new(510, 500).is_err())?;
+        check_ne(quote, Quote::new(500, 511)?)?;
+        check_ne(quote, Quote::new(499, 510)?)?;
+        check_eq(refused(Quote::new(510, 500)), Some(13))?;
         check_eq(
             Quote::from_bytes(&[0, 0, 0x01, 0xFE, 0, 0, 0x01, 0xF4]),
             None,
@@ -74,7 +88,31 @@ mod tests {
     }
 
     #[test]
-    fn refusals_have_numbers() -> Result<(), Fail> {
-        check_eq(Refusal::Unlawful.number(), 13)
+    fn curve_and_its_bytes() -> Result<(), Fail> {
+        let curve = Curve::new(-25, 10, 130, 275);
+        check_eq(
+            curve.to_bytes(),
+            [
+                0xFF,
+                0xFF,
+                0xFF,
+                0xE7,
+                0,
+                0,
+                0,
+                0x0A,
+                0,
+                0,
+                0,
+                0x82,
+                0,
+                0,
+                0x01,
+                0x13,
+            ],
+        )?;
+        check_eq(read_back(&curve), Some(curve))?;
+        check_ne(curve, Curve::new(-25, 10, 130, 276))?;
+        check_eq(Curve::from_bytes(&[0; 15]), None)
     }
 }

@@ -1,2 +1,3 @@
 pub mod FourBytes
 pub mod Padded
+pub mod Reading

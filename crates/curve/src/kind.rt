@@ -4,10 +4,10 @@ ghost use mathlib.Core.List.{[], _∷_};
 ghost use Prim.Native.Nat.{_+_, _≤_};
 ghost use lib.ListN.{length};
 ghost use Rattle.std.specs.declared.option.Option.the-variants.{Some};
-ghost use Rattle.content.specs.Bytes.{four-at};
+ghost use Rattle.content.specs.Bytes.{number-at};
 ghost use Rattle.curve.specs.Curve.{rate-of, rates, curve-bytes, curve-read, shown-curve};
-use crate::rates::Curve;
-use crate::rates::Rate;
+use crate::curve::Curve;
+use crate::curve::Rate;
 use content::Content;
 use content::WIDEST;
 use std::fmt;
@@ -62,15 +62,15 @@ pub impl Content for Curve as CurveContent {
         ]
     }
 
-    fn from_bytes(part: &[u8]) -> Option<Curve> {
-        if part.len() != 16 {
+    fn from_bytes(bytes: &[u8]) -> Option<Curve> {
+        if bytes.len() != 16 {
             return None;
         }
         Some(Curve {
-            first: rate_at(part, 0),
-            second: rate_at(part, 4),
-            third: rate_at(part, 8),
-            fourth: rate_at(part, 12),
+            first: rate_at(bytes, 0),
+            second: rate_at(bytes, 4),
+            third: rate_at(bytes, 8),
+            fourth: rate_at(bytes, 12),
         })
     }
 }
@@ -88,10 +88,10 @@ pub impl fmt::Display for Curve as CurveDisplay {
 }
 
 // The rate whose four bytes begin at a place.
-fn rate_at(part: &[u8], at: usize) -> Rate
-    requires { ⌜ at + 4 ≤ length (now part) ⌝ }
-    ensures { λ r. ⌜ r ≡ rate-of (four-at (now (part .entry)) at) ⌝ }
+fn rate_at(bytes: &[u8], at: usize) -> Rate
+    requires { ⌜ at + 4 ≤ length (now bytes) ⌝ }
+    ensures { λ r. ⌜ r ≡ rate-of (number-at (now (bytes .entry)) at) ⌝ }
 {
-    let value = i32::from_be_bytes([part[at], part[at + 1], part[at + 2], part[at + 3]]);
+    let value = i32::from_be_bytes([bytes[at], bytes[at + 1], bytes[at + 2], bytes[at + 3]]);
     Rate { value }
 }

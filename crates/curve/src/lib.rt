@@ -1,10 +1,12 @@
 //! A kind of content: curves.
+mod curve;
 mod kind;
-mod rates;
 
+pub use curve::Curve;
+pub use curve::CurveDebug;
+pub use curve::CurvePartialEq;
+pub use curve::Rate;
+pub use curve::RateDebug;
+pub use curve::RatePartialEq;
 pub use kind::CurveContent;
 pub use kind::CurveDisplay;
-pub use rates::Curve;
-pub use rates::CurveDebug;
-pub use rates::CurvePartialEq;
-pub use rates::Rate;

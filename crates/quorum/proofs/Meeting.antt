@@ -6,6 +6,7 @@ use mathlib.Core.Logic.{_⊎_, inl, inr, ⊎-elim}
 use Prim.Native.Nat.{ℕ, zero, suc, _+_, _*_, _/_, _%_, _^_, _≤_, _<_}
 use native.Mathlib.Nat.{pow-suc, pow-succ', div-div-eq-div-mul}
 use native.Mathlib.Omega.{arith}
+use lib.Bits.{bitAnd, and-step}
 use lib.Dec.{eqb}
 use lib.Pow.{pow-pos}
 use Rattle.std.proofs.shelf.Tests.{cond-true}
@@ -14,13 +15,12 @@ use Rattle.quorum.specs.Sets.{member, everyone, Share}
 use Rattle.quorum.specs.Rules.{weight}
 use Rattle.quorum.proofs.Weights.{weight-nobody}
 
--- a place of half the set is the next place of the set
-member-next : (place set : ℕ) → member place (set / 2) ≡ true → member (suc place) set ≡ true
-member-next place set h =
-    ap (λ n. eqb (n % 2) 1) (ap (λ n. set / n) (pow-succ' 2 place) ∙ sym (div-div-eq-div-mul set 2 (2 ^ place))) ∙ h
+-- the next place of a set is the place of half the set
+member-half : (place set : ℕ) → member (suc place) set ≡ member place (set / 2)
+member-half place set = ap (λ n. eqb (n % 2) 1) (ap (λ n. set / n) (pow-succ' 2 place) ∙ sym (div-div-eq-div-mul set 2 (2 ^ place)))
 
 share-next : (n a b : ℕ) → Share n (a / 2) (b / 2) → Share (suc n) a b
-share-next n a b (place, below, in-a, in-b) = (suc place, omega arith, member-next place a in-a, member-next place b in-b)
+share-next n a b (place, below, in-a, in-b) = (suc place, omega arith, member-half place a ∙ in-a, member-half place b ∙ in-b)
 
 -- one place weighs w: where not both sets have it, they have it together at most once
 once : (p q : Bool) (w : ℕ) → ((p ≡ true) × (q ≡ true)) ⊎ (cond p w 0 + cond q w 0 ≤ w)
@@ -57,3 +57,13 @@ pub halves-share : (ws : List ℕ) (size a b : ℕ) → a < 2 ^ size → b < 2 ^
     → weight ws (everyone size) < 2 * weight ws a → weight ws (everyone size) < 2 * weight ws b → Share size a b
 halves-share ws size a b a-below b-below a-heavy b-heavy =
     ⊎-elim (λ shared. shared) (λ fit. absurd (omega arith)) (share-or-fit ws size a b a-below b-below)
+
+member-of-both : (place a b : ℕ) → member place a ≡ true → member place b ≡ true → bitAnd a b ≡ 0 → ⊥
+member-of-both zero a b in-a in-b none = let step = and-step a b in grind (arith, tells)
+member-of-both (suc place) a b in-a in-b none =
+    let step = and-step a b in
+    member-of-both place (a / 2) (b / 2) (sym (member-half place a) ∙ in-a) (sym (member-half place b) ∙ in-b) (omega arith)
+
+-- sets that share a place are not apart as bits
+pub sharing-overlap : (size a b : ℕ) → Share size a b → bitAnd a b ≡ 0 → ⊥
+sharing-overlap size a b (place, _, in-a, in-b) = member-of-both place a b in-a in-b

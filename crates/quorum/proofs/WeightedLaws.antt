@@ -10,11 +10,11 @@ use Rattle.std.proofs.shelf.Tests.{cond-true}
 use Rattle.std.proofs.shelf.Ways.{tells}
 use Rattle.quorum.specs.Limits.{largest-group}
 use Rattle.quorum.specs.Sets.{member, everyone, Share}
-use Rattle.quorum.specs.Rules.{weight, heavier-half}
+use Rattle.quorum.specs.Rules.{weight, outweighs-half}
 use Rattle.quorum.proofs.Meeting.{halves-share, first-of-everyone}
 
-pub heavier-halves-meet : (ws : List ℕ) (size a b : ℕ) → heavier-half ws size a ≡ true → heavier-half ws size b ≡ true → Share size a b
-heavier-halves-meet ws size a b a-wins b-wins =
+pub outweighing-halves-meet : (ws : List ℕ) (size a b : ℕ) → outweighs-half ws size a ≡ true → outweighs-half ws size b ≡ true → Share size a b
+outweighing-halves-meet ws size a b a-wins b-wins =
     halves-share ws size a b (grind (arith, tells)) (grind (arith, tells)) (grind (arith, tells)) (grind (arith, tells))
 
 -- the first place weighs something, and everyone has it
@@ -23,8 +23,8 @@ some-weight [] size first least = absurd (omega arith)
 some-weight (w ∷ ws) zero first least = absurd (omega arith)
 some-weight (w ∷ ws) (suc n) first least = omega (arith, cond-true (member 0 (everyone (suc n))) w 0 (first-of-everyone n))
 
-pub everyone-is-heavier-half : (ws : List ℕ) (size : ℕ) → 1 ≤ getD ws 0 0 → 1 ≤ size → size ≤ largest-group → heavier-half ws size (everyone size) ≡ true
-everyone-is-heavier-half ws size first least most =
+pub everyone-outweighs-half : (ws : List ℕ) (size : ℕ) → 1 ≤ getD ws 0 0 → 1 ≤ size → size ≤ largest-group → outweighs-half ws size (everyone size) ≡ true
+everyone-outweighs-half ws size first least most =
     let heavy = some-weight ws size first least in
     let some : 0 < 2 ^ size = pow-pos size in
     grind (arith, tells)

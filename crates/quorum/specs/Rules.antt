@@ -23,9 +23,10 @@ weight [] set = 0
 weight (w ∷ ws) set = cond (member 0 set) w 0 + weight ws (set / 2)
 
 -- Weighted: twice the set's weight exceeds the weight of all places below the size
-abbrev pub heavier-half : List ℕ → ℕ → ℕ → Bool
-heavier-half weights size set = in-bounds size set && ltb (weight weights (everyone size)) (2 * weight weights set)
+abbrev pub outweighs-half : List ℕ → ℕ → ℕ → Bool
+outweighs-half weights size set = in-bounds size set && ltb (weight weights (everyone size)) (2 * weight weights set)
 
+-- no weight is above the heaviest
 abbrev pub none-too-heavy : List ℕ → Bool
 none-too-heavy [] = true
 none-too-heavy (w ∷ ws) = leb w heaviest && none-too-heavy ws

@@ -5,13 +5,19 @@ ghost use Prim.Native.Nat.{ℕ, _≤_};
 ghost use Rattle.quorum.specs.Limits.{largest-group};
 ghost use Rattle.quorum.specs.Sets.{in-bounds, everyone, Share};
 
+mod any;
 mod majority;
 mod sets;
 mod weighted;
 
+pub use any::both_win_apart;
+pub use any::everyone_wins;
 pub use majority::Majority;
+pub use majority::MajorityDebug;
+pub use majority::MajorityPartialEq;
 pub use majority::MajorityRule;
 pub use weighted::Weighted;
+pub use weighted::WeightedDebug;
 pub use weighted::rule::WeightedRule;
 
 /// The most members of a group.
@@ -23,7 +29,7 @@ pub const HEAVIEST: u8 = 100;
 /// A quorum rule. A group has a size of 1 to 7; its places are counted from 0, and place i is bit i of a set.
 /// A rule need not favour the larger set: one that wins may be part of one that loses.
 pub trait QuorumRule {
-    /// whether a set wins at a size
+    /// Whether a set wins at a size.
     ghost winning: { Self → ℕ → ℕ → Bool };
 
     /// Only a set of places below a size of 1 to 7 wins.

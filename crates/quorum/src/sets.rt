@@ -6,7 +6,7 @@ ghost use Rattle.quorum.specs.Sets.{in-bounds, everyone as all-places};
 use crate::LARGEST_GROUP;
 
 // Whether the size is 1 to 7 and the set has only places below it.
-pub(crate) fn within(size: u8, set: u8) -> bool
+pub(crate) fn in_bounds(size: u8, set: u8) -> bool
     ensures { λ r. ⌜ r ≡ in-bounds size set ⌝ }
 {
     if size < 1 || usize::from(size) > LARGEST_GROUP {

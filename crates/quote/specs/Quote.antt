@@ -10,22 +10,23 @@ use lib.ListN.{length}
 use Rattle.std.specs.Written.{decimal}
 use Rattle.std.specs.declared.option.Option.{Option}
 use Rattle.std.specs.declared.option.Option.the-variants.{Some, None}
-use Rattle.quote.specs.declared.price.Quote.{Quote}
-use Rattle.content.specs.Bytes.{four, four-at}
+use Rattle.quote.specs.declared.quote.Quote.{Quote}
+use Rattle.content.specs.Bytes.{four-bytes, number-at}
 
 -- the quote of a bid and an ask: there is one exactly if the bid is at most the ask and the ask has 32 bits
-abbrev pub quoted : ℕ → ℕ → Option Quote
-quoted bid ask =
+abbrev pub quote-of : ℕ → ℕ → Option Quote
+quote-of bid ask =
     dite (decLe bid ask)
     (λ ordered. dite (decLt ask (2 ^ 32)) (λ fits. Some (record { bid = bid; ask = ask; ordered = ordered; fits = fits })) (λ _. None))
     (λ _. None)
 
+-- a quote as eight bytes
 abbrev pub quote-bytes : Quote → List ℕ
-quote-bytes quote = four (quote .bid) ++ four (quote .ask)
+quote-bytes quote = four-bytes (quote .bid) ++ four-bytes (quote .ask)
 
--- eight bytes are read as their bid and ask, and are none of a quote where there is no such quote
+-- eight bytes are read as the quote of their bid and ask, if there is one; all other bytes are none of a quote
 abbrev pub quote-read : List ℕ → Option Quote
-quote-read bs = cond (eqb (length bs) 8) (quoted (four-at bs 0) (four-at bs 4)) None
+quote-read bs = cond (eqb (length bs) 8) (quote-of (number-at bs 0) (number-at bs 4)) None
 
 -- as it is printed: bid, a blank, ask
 abbrev pub shown-quote : Quote → List ℕ

@@ -3,8 +3,8 @@ ghost use mathlib.Core.Path.{_≡_};
 ghost use Rattle.std.specs.Options.{okOr};
 ghost use Rattle.refusal.specs.declared.Refusal.the-variants.{Unlawful};
 ghost use Rattle.std.specs.declared.option.Option.the-variants.{Some};
-ghost use Rattle.quote.specs.Quote.{quoted, quote-bytes, quote-read, shown-quote};
-use crate::price::Quote;
+ghost use Rattle.quote.specs.Quote.{quote-of, quote-bytes, quote-read, shown-quote};
+use crate::quote::Quote;
 use content::Content;
 use content::WIDEST;
 use refusal::Refusal;
@@ -13,7 +13,7 @@ use std::fmt;
 impl Quote {
     /// The quote of a bid and an ask, as `Quote::new(500, 510)?`; refused if the bid is above the ask.
     pub fn new(bid: u32, ask: u32) -> Result<Quote, Refusal>
-        ensures { λ r. ⌜ r ≡ okOr (quoted bid ask) Unlawful ⌝ }
+        ensures { λ r. ⌜ r ≡ okOr (quote-of bid ask) Unlawful ⌝ }
     {
         if bid > ask {
             return Err(Refusal::Unlawful);
@@ -39,8 +39,8 @@ pub impl Content for Quote as QuoteContent {
         [b0, b1, b2, b3, a0, a1, a2, a3, 0, 0, 0, 0, 0, 0, 0, 0]
     }
 
-    fn from_bytes(part: &[u8]) -> Option<Quote> {
-        let [b0, b1, b2, b3, a0, a1, a2, a3] = part else {
+    fn from_bytes(bytes: &[u8]) -> Option<Quote> {
+        let [b0, b1, b2, b3, a0, a1, a2, a3] = bytes else {
             return None;
         };
         let bid = u32::from_be_bytes([*b0, *b1, *b2, *b3]);

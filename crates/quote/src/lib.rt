@@ -1,9 +1,9 @@
 //! A kind of content: quotes.
 mod kind;
-mod price;
+mod quote;
 
 pub use kind::QuoteContent;
 pub use kind::QuoteDisplay;
-pub use price::Quote;
-pub use price::QuoteDebug;
-pub use price::QuotePartialEq;
+pub use quote::Quote;
+pub use quote::QuoteDebug;
+pub use quote::QuotePartialEq;

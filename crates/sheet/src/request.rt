@@ -48,13 +48,21 @@ fn quote(words: &mut SplitWhitespace<'_>) -> Option<Request> {
     let mut sides = [0u32; 2];
     let count = numbers(words, &mut sides)?;
     let [bid, ask] = sides;
-    if count == 2 { Some(Request::Quote { bid, ask }) } else { None }
+    if count == 2 {
+        Some(Request::Quote { bid, ask })
+    } else {
+        None
+    }
 }
 
 fn curve(words: &mut SplitWhitespace<'_>) -> Option<Request> {
     let mut rates = [0i32; 4];
     let count = numbers(words, &mut rates)?;
-    if count == 4 { Some(Request::Curve { rates }) } else { None }
+    if count == 4 {
+        Some(Request::Curve { rates })
+    } else {
+        None
+    }
 }
 
 fn majority(words: &mut SplitWhitespace<'_>) -> Option<Request> {
@@ -70,7 +78,10 @@ fn weighted(words: &mut SplitWhitespace<'_>) -> Option<Request> {
 }
 
 // Fills the places with the numbers that come, as far as they go, and says how many came; none at a word that is no number.
-fn numbers<T: FromStr<Err = ParseIntError> + Drop>(words: &mut SplitWhitespace<'_>, places: &mut [T]) -> Option<usize> {
+fn numbers<T: FromStr<Err = ParseIntError> + Drop>(
+    words: &mut SplitWhitespace<'_>,
+    places: &mut [T],
+) -> Option<usize> {
     let mut count = 0usize;
     for place in places.iter_mut() {
         let Some(word) = words.next() else {

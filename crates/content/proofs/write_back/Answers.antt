@@ -6,9 +6,9 @@ use Rattle.content.specs.Bytes.{padded}
 use Rattle.content.proofs.Padded.{bytes-from-fits}
 use Rattle.content.proofs.write_back.Needs as need
 
-pub returns-in-Some : need.returns-in-Some
-returns-in-Some g c =
-    let bs = c .args .part .now in
-    let read = c .in-Some .ensures tt in
-    let same = g .C·Content·met .«writes_read» bs (c .in-Some .content) (bytes-from-fits bs (c .typed .part)) (sym read) in
+pub returns : need.returns
+returns g c =
+    let bs = c .args .bytes .now in
+    let read = c .in-Continue-content .ensures tt in
+    let same = g .C·Content·met .«writes_read» bs (c .in-Continue-content .content) (bytes-from-fits bs (c .typed .bytes)) (sym read) in
     ap Some (c .to-bytes .ensures ∙ ap padded same) ∙ ap (mapped (λ _. padded bs)) read

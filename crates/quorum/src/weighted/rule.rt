@@ -2,12 +2,12 @@
 ghost use mathlib.Core.Path.{_≡_};
 ghost use Prim.Native.Nat.{_*_, _≤_};
 ghost use Rattle.quorum.specs.Limits.{largest-group, heaviest};
-ghost use Rattle.quorum.specs.Rules.{none-too-heavy, weighted, weight, heavier-half, rule-weights};
+ghost use Rattle.quorum.specs.Rules.{none-too-heavy, weighted, weight, outweighs-half, rule-weights};
 use crate::HEAVIEST;
 use crate::LARGEST_GROUP;
 use crate::QuorumRule;
 use crate::sets::everyone;
-use crate::sets::within;
+use crate::sets::in_bounds;
 use crate::weighted::Weighted;
 use refusal::Refusal;
 
@@ -16,7 +16,7 @@ impl Weighted {
     pub fn new(weights: [u8; LARGEST_GROUP]) -> Result<Weighted, Refusal>
         ensures { λ r. ⌜ rule-weights r ≡ weighted weights ⌝ }
     {
-        if weights[0] < 1 || !light(&weights) {
+        if weights[0] < 1 || !none_too_heavy(&weights) {
             return Err(Refusal::Unlawful);
         }
         Ok(Weighted { weights })
@@ -31,7 +31,7 @@ impl Weighted {
         let mut rest = set;
         for weight in &self.weights {
             if rest % 2 == 1 {
-                sum += *weight as u16;
+                sum += u16::from(*weight);
             }
             rest /= 2;
         }
@@ -40,10 +40,10 @@ impl Weighted {
 }
 
 pub impl QuorumRule for Weighted as WeightedRule {
-    ghost winning = { λ rule size set. heavier-half (rule .weights) size set };
+    ghost winning = { λ rule size set. outweighs-half (rule .weights) size set };
 
     fn wins(&self, size: u8, set: u8) -> bool {
-        if !within(size, set) {
+        if !in_bounds(size, set) {
             return false;
         }
         2 * self.weight(set) > self.weight(everyone(size))
@@ -51,7 +51,7 @@ pub impl QuorumRule for Weighted as WeightedRule {
 }
 
 // Whether no weight is above 100.
-fn light(weights: &[u8]) -> bool
+fn none_too_heavy(weights: &[u8]) -> bool
     ensures { λ r. ⌜ r ≡ none-too-heavy (now (weights .entry)) ⌝ }
 {
     let mut all = true;

@@ -1,8 +1,8 @@
-//! A curve: four rates.
+//! What a curve is.
 ghost use Prim.Native.Nat.{_<_, _^_};
 ghost use lib.Signed.{mag};
 
-/// A rate, in the sheet's smallest unit; it may be negative.
+/// A rate, in the smallest unit of rates; it may be negative.
 #[derive(Clone, Copy, Debug, PartialEq, Eq)]
 pub struct Rate {
     pub value: i32,

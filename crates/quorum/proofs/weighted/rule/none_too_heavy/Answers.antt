@@ -3,7 +3,7 @@ use Rattle.std.proofs.shelf.Lists.{at-drop-all}
 use Rattle.std.proofs.shelf.Ways.{tells}
 use Rattle.quorum.specs.Rules.{none-too-heavy}
 use Rattle.quorum.proofs.Weights.{light-more}
-use Rattle.quorum.proofs.weighted.rule.light.Needs as need
+use Rattle.quorum.proofs.weighted.rule.none_too_heavy.Needs as need
 
 pub loop-weight-again : need.loop-weight-again
 loop-weight-again c =
