@@ -1,4 +1,4 @@
-//! Answers requests about contents and quorum rules, a line each on standard input, by the library.
+//! Answers requests about contents and quorum rules, a line each on standard input.
 ghost use Prim.Native.Nat.{_≤_};
 ghost use Rattle.quorum.specs.Limits.{largest-group};
 
@@ -33,9 +33,9 @@ use text::PlacesDisplay;
 fn main(rt: LibcRuntime) -> io::Result<()> {
     for line in rt.lines(rt.alloc()) {
         let line = line?;
-        let request = line.as_str();
-        println!(rt, "{request}")?;
-        answer(&rt, parse(request))?;
+        let text = line.as_str();
+        println!(rt, "{text}")?;
+        answer(&rt, parse(text))?;
     }
     Ok(())
 }
@@ -94,7 +94,7 @@ fn show_weighted_group(rt: &LibcRuntime, weights: [u8; LARGEST_GROUP], size: u8)
 
 // Which sets of acknowledgements win in a group of this size, and which lose.
 fn show_group<Q: QuorumRule>(rt: &LibcRuntime, rule: &Q, size: u8) -> io::Result<()> {
-    if size < 1 || usize::from(size) > LARGEST_GROUP {
+    if size == 0 || usize::from(size) > LARGEST_GROUP {
         return println!(rt, "    no group has this size");
     }
     print!(rt, "    wins ")?;
@@ -103,7 +103,7 @@ fn show_group<Q: QuorumRule>(rt: &LibcRuntime, rule: &Q, size: u8) -> io::Result
     show_sets(rt, rule, size, false)
 }
 
-// The sets of places below the size that win, or those that lose, on a line.
+// The nonempty sets of places below the size that win, or those that lose, on a line.
 fn show_sets<Q: QuorumRule>(rt: &LibcRuntime, rule: &Q, size: u8, winning: bool) -> io::Result<()>
     requires { ⌜ size ≤ largest-group ⌝ }
 {

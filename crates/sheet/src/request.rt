@@ -1,4 +1,5 @@
 //! Requests, as they stand on a line.
+use quorum::LARGEST_GROUP;
 use std::num::ParseIntError;
 use std::str::FromStr;
 use std::str::SplitWhitespace;
@@ -9,15 +10,28 @@ pub enum Request {
     /// an empty line, or one that begins with '#'
     Comment,
     /// `quote BID ASK`: make it, write it, read it back
-    Quote { bid: u32, ask: u32 },
+    Quote {
+        bid: u32,
+        ask: u32,
+    },
     /// `bytes HH HH HH HH HH HH HH HH`: read a quote
-    QuoteBytes { bytes: [u8; 8] },
+    QuoteBytes {
+        bytes: [u8; 8],
+    },
     /// `curve RATE RATE RATE RATE`: make it, write it, read it back
-    Curve { rates: [i32; 4] },
+    Curve {
+        rates: [i32; 4],
+    },
     /// `majority SIZE`: which sets win
-    Majority { size: u8 },
+    Majority {
+        size: u8,
+    },
     /// `weighted WEIGHT ..`: which sets win in a group with a place for each weight
-    Weighted { weights: [u8; 7], size: u8 },
+    Weighted {
+        weights: [u8; LARGEST_GROUP],
+        size: u8,
+    },
+    /// a line that is none of these
     Unknown,
 }
 
@@ -71,23 +85,23 @@ fn majority(words: &mut SplitWhitespace<'_>) -> Option<Request> {
 }
 
 fn weighted(words: &mut SplitWhitespace<'_>) -> Option<Request> {
-    let mut weights = [0u8; 7];
+    let mut weights = [0u8; LARGEST_GROUP];
     let count = numbers(words, &mut weights)?;
     let size = u8::try_from(count).ok()?;
     Some(Request::Weighted { weights, size })
 }
 
-// Fills the places with the numbers that come, as far as they go, and says how many came; none at a word that is no number.
+// Fills the values with the numbers that come, as far as they go, and says how many came; none at a word that is no number.
 fn numbers<T: FromStr<Err = ParseIntError> + Drop>(
     words: &mut SplitWhitespace<'_>,
-    places: &mut [T],
+    values: &mut [T],
 ) -> Option<usize> {
     let mut count = 0usize;
-    for place in places.iter_mut() {
+    for value in values.iter_mut() {
         let Some(word) = words.next() else {
             break;
         };
-        *place = word.parse::<T>().ok()?;
+        *value = word.parse::<T>().ok()?;
         count += 1;
     }
     Some(count)
@@ -96,7 +110,15 @@ fn numbers<T: FromStr<Err = ParseIntError> + Drop>(
 fn quote_bytes(words: &mut SplitWhitespace<'_>) -> Option<Request> {
     let mut bytes = [0; 8];
     for byte in bytes.iter_mut() {
-        *byte = u8::from_str_radix(words.next()?, 16).ok()?;
+        *byte = hexadecimal_byte(words.next()?)?;
     }
     Some(Request::QuoteBytes { bytes })
+}
+
+// The byte of two hexadecimal digits.
+fn hexadecimal_byte(word: &str) -> Option<u8> {
+    if word.len() != 2 || word.starts_with('+') {
+        return None;
+    }
+    u8::from_str_radix(word, 16).ok()
 }

@@ -2,6 +2,6 @@
 use Prim.Native.Nat.{_≤_}
 use Rattle.sheet.proofs.request.numbers.Given as given
 
-abbrev pub Inv-loop-place : given.InvT-loop-place
-Inv-loop-place g l =
-    given.iterator-loop-place g .can (l .words) × given.iterator-loop-place g .ends (l .words) × (l .count ≤ l .place-index)
+abbrev pub Inv-loop-value : given.InvT-loop-value
+Inv-loop-value g l =
+    given.iterator-loop-value g .can (l .words) × given.iterator-loop-value g .ends (l .words) × (l .count ≤ l .value-index)
