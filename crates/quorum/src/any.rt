@@ -13,7 +13,7 @@ pub fn everyone_wins<Q: QuorumRule>(rule: &Q, size: u8) -> bool
     let places = if usize::from(size) <= LARGEST_GROUP {
         everyone(size)
     } else {
-        0
+        u8::MAX
     };
     rule.wins(size, places)
 }
