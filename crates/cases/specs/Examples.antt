@@ -1,4 +1,4 @@
--- The worked examples of docs/, as equations of the definitions that the library's contracts cite.
+-- The worked examples of docs/contents.md and docs/quorum-rules.md, as equations of the definitions that the library's contracts cite.
 use mathlib.Core.Bool.{true, false}
 use mathlib.Core.List.{List, [], _∷_}
 use mathlib.Core.Path.{_≡_}

@@ -1,4 +1,4 @@
-//! The worked examples of docs/, proved as one list, and run.
+//! The worked examples of docs/contents.md and docs/quorum-rules.md, proved as one list, and run.
 ghost use mathlib.Core.Path.{_≡_};
 ghost use mathlib.Core.Bool.{true};
 ghost use Rattle.cases.specs.Examples.{Worked-examples};
