@@ -1,4 +1,6 @@
 //! The worked examples of docs/contents.md and docs/quorum-rules.md, proved as one list, those of docs/frames.md as another, and run.
+#![tactic(auto)]
+
 ghost use Rattle.std.specs.Prelude.{◌≡◌, true};
 ghost use Rattle.cases.specs.Examples.{WorkedExamples};
 ghost use Rattle.cases.specs.FrameExamples.{FrameExamples};
@@ -174,7 +176,7 @@ mod tests {
                         node: 16,
                     }
                 );
-                assert!(rt; content == [0, 0, 0x01, 0xF4, 0, 0, 0x01, 0xFE]);
+                assert!(rt; content == [0, 0, 0x01, 0xF4, 0, 0, 0x01, 0xFE].as_slice());
                 Ok(())
             }
             _ => {
@@ -214,7 +216,7 @@ mod tests {
             ) => {
                 assert_eq!(rt; head, from_1_to_2(1));
                 assert_eq!(rt; count, 3);
-                assert!(rt; members == [2, 3, 4, 0, 0, 0, 0]);
+                assert!(rt; members == [2, 3, 4, 0, 0, 0, 0].as_slice());
                 assert_eq!(rt;
                     tag,
                     Tag {
@@ -222,7 +224,7 @@ mod tests {
                         node: 0,
                     }
                 );
-                assert!(rt; content == bytes);
+                assert!(rt; content == bytes.as_slice());
                 Ok(())
             }
             _ => {

@@ -1,6 +1,6 @@
 -- Bytes as numbers, and the four bytes of a number of 32 bits.
 use Rattle.std.specs.Prelude.{ℕ, ◌+◌, ◌-◌, ◌*◌, ◌/◌, ◌%◌, ◌^◌, ◌<◌, List, [], ◌∷◌, ◌++◌, length, replicate, slice_index}
-use Rattle.std.specs.List.{AllByRecursion as All}
+use Rattle.std.specs.List.{AllByRecursion}
 
 -- a number that is a byte
 abbrev pub Byte : ℕ → Type 0
@@ -8,7 +8,7 @@ Byte b = b < 256
 
 -- each number of the list is a byte
 abbrev pub AllBytes : List ℕ → Type 0
-AllBytes bs = All Byte bs
+AllBytes bs = AllByRecursion Byte bs
 
 -- the most bytes that a content may take
 abbrev pub widest : ℕ

@@ -1,4 +1,6 @@
 //! What a price sheet may hold: the interface that a kind of content keeps.
+#![tactic(auto)]
+
 ghost use Rattle.std.specs.Prelude.{◌≡◌, ℕ, ◌≤◌, List, length, Some, Option};
 ghost use Rattle.std.specs.Option.{option_map};
 ghost use Rattle.content.specs.Bytes.{AllBytes, padded, widest};
@@ -58,7 +60,7 @@ pub fn read_back<C: Content>(content: &C) -> Option<C>
 
 /// Reads bytes and writes again what they stand for: the same bytes, then zeros up to 16; none if they are not of this kind.
 pub fn write_back<C: Content>(bytes: &[u8]) -> Option<[u8; WIDEST]>
-    ensures { result ≡ option_map (λ _. padded bytes.now) (reads bytes.now) }
+    ensures { result ≡ option_map (λ _. padded bytes.now) (C.reads bytes.now) }
 {
     let content = C::from_bytes(bytes)?;
     Some(content.to_bytes())

@@ -1,4 +1,6 @@
 //! A kind of content: curves.
+#![tactic(auto)]
+
 mod curve;
 mod kind;
 

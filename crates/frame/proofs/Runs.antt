@@ -1,17 +1,17 @@
 -- Every field passes exactly if the judgement is the answer and no fault.
 use Rattle.std.proofs.Common.{◌≡◌, ℕ, Bool, true, false, cond, List, [], ◌∷◌, Ok, Err, Result, refl, ap, ◌∙◌, arith}
 use Rattle.std.specs.Result.{result_and}
-use Rattle.std.specs.List.{AllByRecursion as All}
+use Rattle.std.specs.List.{AllByRecursion}
 use Rattle.frame.specs.declared.fault.FrameFault.{FrameFault}
 use Rattle.frame.specs.Fields.{Test, verdict, judged, judged_runs}
 use Rattle.frame.specs.Faults.{fault}
 
 -- each field of a run passes, and of each run
 abbrev pub Pass : List Test → Type 0
-Pass tests = All (λ (test : Test). test.passes ≡ true) tests
+Pass tests = AllByRecursion (λ (test : Test). test.passes ≡ true) tests
 
 abbrev pub PassAll : List (List Test) → Type 0
-PassAll runs = All Pass runs
+PassAll runs = AllByRecursion Pass runs
 
 pub fault_is_no_answer : {X Y : Type 0} {f : FrameFault} {x : X} → ◌≡◌ {A = Result X FrameFault} (Err f) (Ok x) → Y
 fault_is_no_answer same = let z : ◌≡◌ {A = ℕ} 0 1 = cc in absurd (omega arith)

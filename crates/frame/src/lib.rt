@@ -1,4 +1,6 @@
 //! The format of frames: why bytes are no frame, what a frame says, and the bounds of its fields.
+#![tactic(auto)]
+
 mod fault;
 mod limits;
 mod message;

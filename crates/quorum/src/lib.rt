@@ -1,4 +1,6 @@
 //! Which sets of acknowledgements suffice: the interface that a quorum rule keeps, and the two rules that come with the library.
+#![tactic(auto)]
+
 ghost use Rattle.std.specs.Prelude.{◌≡◌, ℕ, ◌≤◌, Bool, true};
 ghost use Rattle.quorum.specs.Limits.{largest_group};
 ghost use Rattle.quorum.specs.Sets.{in_bounds, everyone, Share};

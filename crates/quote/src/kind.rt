@@ -30,13 +30,13 @@ impl Content for Quote {
 
     ghost reads = { quote_read };
 
-    ghost width_positive = { first_of (Prim.search rules, Prim.grind (arith, Self.row.coded.inj)) };
+    ghost width_positive = { Prim.search rules };
 
-    ghost width_bounded = { first_of (Prim.search rules, Prim.grind (arith, Self.row.coded.inj)) };
+    ghost width_bounded = { Prim.search rules };
 
-    ghost meaning_fills_width = { first_of (Prim.search rules, Prim.grind (arith, Self.row.coded.inj)) };
+    ghost meaning_fills_width = { Prim.search rules };
 
-    ghost meaning_is_bytes = { first_of (Prim.search rules, Prim.grind (arith, Self.row.coded.inj)) };
+    ghost meaning_is_bytes = { Prim.search rules };
 
     ghost reads_written = { quote_reads_written };
 

@@ -1,4 +1,6 @@
 //! A kind of content: quotes.
+#![tactic(auto)]
+
 mod kind;
 mod quote;
 

@@ -11,7 +11,7 @@ use frame::{Cause, FrameFault, SLOT};
 /// The kind of the frame in a slot, and the number of bytes that it takes; or the fault of the first field that fails.
 /// `check::<Quote>(&[8; 32])` is the fault of cause 1 at offset 0.
 pub fn check<C: Content>(slot: &[u8]) -> Result<(u8, usize), FrameFault>
-    ensures { result ≡ checked width reads slot.now }
+    ensures { result ≡ checked C.width C.reads slot.now }
 {
     if slot.len() != SLOT {
         return Err(FrameFault {
@@ -27,7 +27,7 @@ pub fn check<C: Content>(slot: &[u8]) -> Result<(u8, usize), FrameFault>
 // The same, but for the rest behind the frame.
 fn before_rest<C: Content>(slot: &[u8]) -> Result<(u8, usize), FrameFault>
     requires { length slot.now ≡ slot_size }
-    ensures { result ≡ checked_kind width reads slot.now (byte_at slot.now 0) }
+    ensures { result ≡ checked_kind C.width C.reads slot.now (byte_at slot.now 0) }
 {
     let kind = slot[0];
     match kind {
@@ -54,7 +54,7 @@ fn plain(slot: &[u8], kind: u8) -> Result<(u8, usize), FrameFault>
 // A put or held.
 fn with_copy<C: Content>(slot: &[u8], kind: u8) -> Result<(u8, usize), FrameFault>
     requires { length slot.now ≡ slot_size }
-    ensures { result ≡ judged_runs (copy_runs width reads slot.now) (kind, 9 + width) }
+    ensures { result ≡ judged_runs (copy_runs C.width C.reads slot.now) (kind, 9 + C.width) }
 {
     fields::route(slot)?;
     fields::number_and_operation(slot)?;
@@ -66,7 +66,7 @@ fn with_copy<C: Content>(slot: &[u8], kind: u8) -> Result<(u8, usize), FrameFaul
 // An update.
 fn update<C: Content>(slot: &[u8], kind: u8) -> Result<(u8, usize), FrameFault>
     requires { length slot.now ≡ slot_size }
-    ensures { result ≡ judged_runs (update_runs width reads slot.now) (kind, 15 + width) }
+    ensures { result ≡ judged_runs (update_runs C.width C.reads slot.now) (kind, 15 + C.width) }
 {
     fields::route(slot)?;
     fields::number_and_count(slot)?;

@@ -69,8 +69,8 @@ pub(crate) fn tag(slot: &[u8], at: usize) -> Result<(), FrameFault>
 
 /// The content that begins at a place: its bytes go to the kind of content, which says whether they are its own.
 pub(crate) fn content<C: Content>(slot: &[u8], at: usize) -> Result<(), FrameFault>
-    requires { at + width ≤ length slot.now }
-    ensures { result ≡ judged (content_fields width reads slot.now at) tt }
+    requires { at + C.width ≤ length slot.now }
+    ensures { result ≡ judged (content_fields C.width C.reads slot.now at) tt }
 {
     let bytes = &slot[at..at + C::width()];
     require(C::from_bytes(bytes).is_some(), Cause::Content, at)?;

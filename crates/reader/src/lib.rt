@@ -1,4 +1,6 @@
 //! Reads frames: checks a slot field by field, and tells what it says.
+#![tactic(auto)]
+
 mod checks;
 mod fields;
 mod reads;

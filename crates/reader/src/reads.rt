@@ -11,8 +11,8 @@ use frame::{FrameFault, Head, Message, Tag};
 
 /// What the frame in a slot says, members and content as parts of the slot; or the fault that `check` answers.
 pub fn read<'a, C: Content>(slot: &'a [u8]) -> Result<Message<'a>, FrameFault>
-    ensures answer { answers result ≡ reading width reads slot.now }
-    ensures lawful_and_written { LawfulAndWritten meaning slot.now (answers result) }
+    ensures answer { answers result ≡ reading C.width C.reads slot.now }
+    ensures lawful_and_written { LawfulAndWritten C.meaning slot.now (answers result) }
 {
     let (kind, _) = check::<C>(slot)?;
     Ok(told::<C>(slot, kind))
@@ -21,7 +21,7 @@ pub fn read<'a, C: Content>(slot: &'a [u8]) -> Result<Message<'a>, FrameFault>
 // What a slot of this kind says.
 fn told<'a, C: Content>(slot: &'a [u8], kind: u8) -> Message<'a>
     requires { length slot.now ≡ slot_size }
-    ensures { says result ≡ told width slot.now kind }
+    ensures { says result ≡ told C.width slot.now kind }
 {
     let head = head(slot);
     let operation = word(slot, 4);

@@ -1,4 +1,6 @@
 //! Why something is refused: each reason has a number that callers and printed answers share.
+#![tactic(auto)]
+
 ghost use Rattle.std.specs.Prelude.{◌≡◌, Some};
 ghost use Rattle.refusal.specs.Numbers.{number, words, shown_refusal};
 

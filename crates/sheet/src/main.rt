@@ -1,4 +1,6 @@
 //! Answers requests about contents, quorum rules and frames, a line each on standard input.
+#![tactic(auto)]
+
 ghost use Rattle.std.specs.Prelude.{◌≤◌};
 ghost use Rattle.quorum.specs.Limits.{largest_group};
 

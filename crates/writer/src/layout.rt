@@ -12,7 +12,7 @@ use frame::{Head, Message, Tag};
 
 /// Writes a message over the 32 bytes of a slot.
 pub(crate) fn write<C: Content>(slot: &mut [u8], message: Message<'_>)
-    requires { (length slot.old ≡ slot_size) × (fits width (says message) ≡ true) }
+    requires { (length slot.old ≡ slot_size) × (fits C.width (says message) ≡ true) }
     ensures { slot.new ≡ bytes_of (says message.entry) }
 {
     match message {

@@ -1,4 +1,6 @@
 //! Writes frames into the frame table.
+#![tactic(auto)]
+
 mod layout;
 mod placing;
 

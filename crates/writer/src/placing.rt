@@ -18,8 +18,8 @@ pub fn place<C: Content>(
     slot: usize,
     message: Message<'_>,
 ) -> Result<(), Refusal>
-    ensures placed { (result, frames.new) ≡ placed width frames.old slot (says message.entry) }
-    ensures reads_back { result ≡ Ok tt → ReadsBack width meaning reads (says message.entry) (slot_of frames.new slot) }
+    ensures placed { (result, frames.new) ≡ placed C.width frames.old slot (says message.entry) }
+    ensures reads_back { result ≡ Ok tt → ReadsBack C.width C.meaning C.reads (says message.entry) (slot_of frames.new slot) }
 {
     if slot >= frames.len() / SLOT {
         return Err(Refusal::NoSlot);

@@ -1,9 +1,11 @@
 use Rattle.std.proofs.Common.{◌∷◌, length, refl, arith}
+use native.Mathlib.Decide.{dec_le, dec_lt}
 use Rattle.std.proofs.lemmas.Bool.{cond-true, cond-false, eq-eqb, ne_eqb}
 use Rattle.cases.specs.FrameExamples.{FrameExamples}
 use Rattle.cases.proofs.frame_examples_stand.Goals as goal
 
 examples : FrameExamples
+unfolding dec_le dec_lt
 examples = record {
   get_written = refl;
   get_checked = refl;
@@ -40,5 +42,5 @@ examples = record {
   refused_with_3 = refl;
 }
 
-pub returns : goal.returns
-returns c = record { listed = examples; asked = ? }
+pub returns-clause-listed : goal.returns-clause-listed
+returns-clause-listed c = examples

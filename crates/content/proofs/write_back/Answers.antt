@@ -8,6 +8,6 @@ use Rattle.content.proofs.write_back.Goals as goal
 pub returns : goal.returns
 returns g c =
     let bs = c.args.bytes.now in
-    let read = c.in-ok-content.ensures in
-    let same = g.met.C.Content.writes_read bs c.in-ok-content.content (bytes_from_fits bs c.type-inv.bytes) (sym read) in
-    ap Some (c.to-bytes.ensures ∙ ap padded same) ∙ ap (option_map (λ _. padded bs)) read
+    let read = c.in_ok-content.ensures in
+    let same = g.met.C.Content.writes_read bs c.in_ok-content.content (bytes_from_fits bs c.type_inv.bytes) (sym read) in
+    ap Some (c.to_bytes.ensures ∙ ap padded same) ∙ ap (option_map (λ _. padded bs)) read

@@ -41,7 +41,7 @@ impl Weighted {
 impl QuorumRule for Weighted {
     ghost winning = { λ rule size set. outweighs_half rule.weights size set };
 
-    ghost winners_in_bounds = { first_of (Prim.search rules, Prim.grind (arith, Self.row.coded.inj)) };
+    ghost winners_in_bounds = { Prim.search rules };
 
     ghost winners_meet = { λ rule. outweighing_halves_meet rule.weights };
 

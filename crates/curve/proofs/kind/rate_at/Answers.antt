@@ -9,9 +9,9 @@ pub returns : goal.returns
 returns c =
     let bs = c.args.bytes.now in
     let i = c.args.at in
-    let b0 = c.type-inv.bytes i in
-    let b1 = c.type-inv.bytes (i + 1) in
-    let b2 = c.type-inv.bytes (i + 2) in
-    let b3 = c.type-inv.bytes (i + 3) in
+    let b0 = c.type_inv.bytes i in
+    let b1 = c.type_inv.bytes (i + 1) in
+    let b2 = c.type_inv.bytes (i + 2) in
+    let b3 = c.type_inv.bytes (i + 3) in
     let fits : number_at bs i < 2 ^ 32 = omega arith in
-    same_rate _ (rate_of (number_at bs i)) (ap (λ (z : ℤ). to_z w32 (of_z w32 z)) c.from-be-bytes-value.ensures ∙ rate_value (number_at bs i) fits)
+    same_rate _ (rate_of (number_at bs i)) (ap (λ (z : ℤ). to_z w32 (of_z w32 z)) c.from_be_bytes-value.ensures ∙ rate_value (number_at bs i) fits)

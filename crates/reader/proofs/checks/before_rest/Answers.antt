@@ -5,5 +5,5 @@ use Rattle.reader.proofs.checks.before_rest.Goals as goal
 pub returns-in-1 : goal.returns-in-1
 returns-in-1 g c = grind (arith, nat_tests)
 
-pub returns_in_default·2 : goal.returns-in-default·2
-returns_in_default·2 g c = grind (arith, nat_tests)
+pub returns-in_default-2 : goal.returns-in_default-2
+returns-in_default-2 g c = grind (arith, nat_tests)

@@ -7,5 +7,5 @@ use Rattle.reader.proofs.checks.check.Goals as goal
 pub rest-requires : goal.rest-requires
 rest-requires g c =
     let slot = c.args.slot.now in
-    let within = taken_within_slot g.C.Content.width g.C.Content.reads slot (byte_at slot 0) _ g.met.C.Content.width_bounded (sym c.in-ok-kind.ensures) in
+    let within = taken_within_slot g.C.Content.width g.C.Content.reads slot (byte_at slot 0) _ g.met.C.Content.width_bounded (sym c.in_ok-kind.ensures) in
     omega arith

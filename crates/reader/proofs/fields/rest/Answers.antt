@@ -6,4 +6,4 @@ use Rattle.reader.proofs.fields.rest.Goals as goal
 
 pub returns : goal.returns
 returns c =
-    c.require.ensures ∙ ap (λ (passes : Bool). verdict (test passes Rest c.args.at)) (c.all-zero.ensures ∙ ap all_zero (take_rest c.args.slot.now c.args.at))
+    c.require.ensures ∙ ap (λ (passes : Bool). verdict (test passes Rest c.args.at)) (c.all_zero.ensures ∙ ap all_zero (take_rest c.args.slot.now c.args.at))

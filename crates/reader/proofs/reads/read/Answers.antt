@@ -15,19 +15,19 @@ kind_laws g =
     record { bounded = met.width_bounded; fills = met.meaning_fills_width; reads_written = met.reads_written; writes_read = met.writes_read }
 
 pub told-requires : goal.told-requires
-told-requires g c = checked_length g.C.Content.width g.C.Content.reads c.args.slot.now _ (sym c.in-ok-kind.ensures)
+told-requires g c = checked_length g.C.Content.width g.C.Content.reads c.args.slot.now _ (sym c.in_ok-kind.ensures)
 
-pub returns-in-err-kind : goal.returns-in-err-kind
-returns-in-err-kind g c =
+pub returns-in_err-kind : goal.returns-in_err-kind
+returns-in_err-kind g c =
     let slot = c.args.slot.now in
-    let fault = err_from_is_err_and c.from-residual.result c.from-residual.ensures.1 in
-    let is = ap answers (fault.1 ∙ ap Err fault.2) ∙ ap (told_if g.C.Content.width slot) c.in-err-kind.ensures in
-    let written = answer_was_written g.C.Content.width g.C.Content.meaning g.C.Content.reads (kind_laws g) slot _ (bytes_from_fits slot c.type-inv.slot) is in
+    let fault = err_from_is_err_and c.from_residual.result c.from_residual.ensures.1 in
+    let is = ap answers (fault.1 ∙ ap Err fault.2) ∙ ap (told_if g.C.Content.width slot) c.in_err-kind.ensures in
+    let written = answer_was_written g.C.Content.width g.C.Content.meaning g.C.Content.reads (kind_laws g) slot _ (bytes_from_fits slot c.type_inv.slot) is in
     record { answer = is; lawful_and_written = written }
 
 pub returns : goal.returns
 returns g c =
     let slot = c.args.slot.now in
-    let is = ap Ok c.told.ensures ∙ ap (told_if g.C.Content.width slot) c.in-ok-kind.ensures in
-    let written = answer_was_written g.C.Content.width g.C.Content.meaning g.C.Content.reads (kind_laws g) slot _ (bytes_from_fits slot c.type-inv.slot) is in
+    let is = ap Ok c.told.ensures ∙ ap (told_if g.C.Content.width slot) c.in_ok-kind.ensures in
+    let written = answer_was_written g.C.Content.width g.C.Content.meaning g.C.Content.reads (kind_laws g) slot _ (bytes_from_fits slot c.type_inv.slot) is in
     record { answer = is; lawful_and_written = written }

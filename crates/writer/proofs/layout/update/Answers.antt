@@ -15,5 +15,5 @@ returns c =
     let cleared : c.clear.new.slot ≡ filled [] = c.clear.ensures ∙ ap (λ (n : ℕ). replicate n 0) long in
     let started : c.lay.new.slot ≡ filled start = c.lay.ensures ∙ laid_behind _ [] start 0 cleared refl in
     let grouped : c.lay-2.new.slot ≡ filled (start ++ members) = c.lay-2.ensures ∙ laid_behind _ start members 5 started refl in
-    c.lay-copy.ensures ∙ copy_behind _ (start ++ members) content c.args.tag 12 grouped twelve
+    c.lay_copy.ensures ∙ copy_behind _ (start ++ members) content c.args.tag 12 grouped twelve
     ∙ ap filled (append_assoc (start ++ members) tag content ∙ append_assoc start members (tag ++ content))

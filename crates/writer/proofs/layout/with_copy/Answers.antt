@@ -6,4 +6,4 @@ use Rattle.writer.proofs.layout.with_copy.Goals as goal
 pub returns : goal.returns
 returns c =
     let front = plain_bytes c.args.kind c.args.head c.args.operation in
-    c.lay-copy.ensures ∙ copy_behind _ front c.args.content.now c.args.tag 6 c.plain.ensures refl
+    c.lay_copy.ensures ∙ copy_behind _ front c.args.content.now c.args.tag 6 c.plain.ensures refl
