@@ -6,7 +6,7 @@ use Rattle.quorum.specs.declared.weighted.Weighted.{Weighted}
 use Rattle.quorum.specs.Limits.{heaviest}
 use Rattle.quorum.specs.Sets.{member, everyone, in_bounds}
 
--- Majority: twice the members of the set exceed the size. `ones set` is the number of places in the set.
+-- Majority: twice the members of the set exceed the size. `count_ones set` is the number of places in the set.
 abbrev pub more_than_half : ℕ → ℕ → Bool
 more_than_half size set = in_bounds size set && nat_lt size (2 * count_ones set)
 
