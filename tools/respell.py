@@ -3,7 +3,7 @@
 
 Rattle's own words are in snake case now, and types and facts in camel case; ours had dashes (slot-size, Reads-back).
 Each name with a dash becomes slot_size or ReadsBack. Left as they are: names of the library, which our files import;
-names that Rattle makes of a function's code, as goals and steps (they follow c, l, w or goal, or are imported from
+names that Rattle makes of a function's code, as goals and steps (they follow c, g, l, w or goal, or are imported from
 Goals or Given); everything in src/ but ghost lines; comments, but for names in backquotes.
 It says which new names fall together with a name that a file had already.
 """

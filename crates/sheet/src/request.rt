@@ -73,15 +73,23 @@ pub(crate) fn parse(line: &str) -> Request {
 
 fn quote(words: &mut SplitWhitespace<'_>) -> Option<Request> {
     let mut sides = [0u32; 2];
-    all_numbers(words, &mut sides)?;
+    let count = numbers(words, &mut sides)?;
     let [bid, ask] = sides;
-    Some(Request::Quote { bid, ask })
+    if count == 2 {
+        Some(Request::Quote { bid, ask })
+    } else {
+        None
+    }
 }
 
 fn curve(words: &mut SplitWhitespace<'_>) -> Option<Request> {
     let mut rates = [0i32; 4];
-    all_numbers(words, &mut rates)?;
-    Some(Request::Curve { rates })
+    let count = numbers(words, &mut rates)?;
+    if count == 4 {
+        Some(Request::Curve { rates })
+    } else {
+        None
+    }
 }
 
 fn majority(words: &mut SplitWhitespace<'_>) -> Option<Request> {
