@@ -4,7 +4,7 @@ ghost use Rattle.std.specs.Option.{ok_or};
 ghost use Rattle.refusal.specs.declared.Refusal.TheVariants.{Unlawful};
 ghost use Rattle.quote.specs.Quote.{quote_of, quote_bytes, quote_read, shown_quote};
 ghost use Rattle.quote.specs.QuoteLaws.{quote_reads_written, quote_writes_read};
-ghost use Rattle.std.proofs.Common.{rules, arith};
+ghost use Rattle.std.proofs.Common.{rules};
 
 use crate::quote::Quote;
 use content::{Content, WIDEST};

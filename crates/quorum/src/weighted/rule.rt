@@ -3,7 +3,7 @@ ghost use Rattle.std.specs.Prelude.{◌≡◌, ◌*◌, ◌≤◌};
 ghost use Rattle.quorum.specs.Limits.{largest_group, heaviest};
 ghost use Rattle.quorum.specs.Rules.{none_too_heavy, weighted, weight, outweighs_half, rule_weights};
 ghost use Rattle.quorum.specs.WeightedLaws.{outweighing_halves_meet, everyone_outweighs_half};
-ghost use Rattle.std.proofs.Common.{rules, arith};
+ghost use Rattle.std.proofs.Common.{rules};
 
 use crate::sets::{everyone, in_bounds};
 use crate::weighted::Weighted;
