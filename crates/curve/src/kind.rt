@@ -1,5 +1,6 @@
 //! How a curve is made, written and read.
 ghost use Rattle.std.specs.Prelude.{◌≡◌, ◌+◌, ◌≤◌, [], ◌∷◌, length, Some};
+ghost use Rattle.std.specs.Fmt.{signed_decimal};
 ghost use Rattle.content.specs.Bytes.{number_at};
 ghost use Rattle.curve.specs.Curve.{rate_of, rates, curve_bytes, curve_read, shown_curve};
 ghost use Rattle.curve.specs.CurveLaws.{curve_reads_written, curve_writes_read};
@@ -9,16 +10,33 @@ use crate::curve::{Curve, Rate};
 use content::{Content, WIDEST};
 use std::fmt;
 
+impl From<i32> for Rate {
+    ghost from_gives = { λ value rate. rate.value ≡ value };
+
+    fn from(value: i32) -> Rate {
+        Rate { value }
+    }
+}
+
+impl fmt::Display for Rate {
+    ghost output = { λ rate. Some (signed_decimal rate.value) };
+
+    fn fmt<W: fmt::Write>(&self, f: &mut fmt::Formatter<W>) -> fmt::Result {
+        let value = self.value;
+        write!(f, "{value}")
+    }
+}
+
 impl Curve {
     /// The curve of four rates, as `Curve::new(-25, 10, 130, 275)`.
     pub fn new(first: i32, second: i32, third: i32, fourth: i32) -> Curve
         ensures { rates result ≡ first ∷ second ∷ third ∷ fourth ∷ [] }
     {
         Curve {
-            first: Rate { value: first },
-            second: Rate { value: second },
-            third: Rate { value: third },
-            fourth: Rate { value: fourth },
+            first: Rate::from(first),
+            second: Rate::from(second),
+            third: Rate::from(third),
+            fourth: Rate::from(fourth),
         }
     }
 }
@@ -73,11 +91,7 @@ impl fmt::Display for Curve {
     ghost output = { λ curve. Some (shown_curve curve) };
 
     fn fmt<W: fmt::Write>(&self, f: &mut fmt::Formatter<W>) -> fmt::Result {
-        let first = self.first.value;
-        let second = self.second.value;
-        let third = self.third.value;
-        let fourth = self.fourth.value;
-        write!(f, "{first} {second} {third} {fourth}")
+        write!(f, "{} {} {} {}", self.first, self.second, self.third, self.fourth)
     }
 }
 
@@ -86,6 +100,5 @@ fn rate_at(bytes: &[u8], at: usize) -> Rate
     requires { at + 4 ≤ length bytes.now }
     ensures { result ≡ rate_of (number_at bytes.now at) }
 {
-    let value = i32::from_be_bytes([bytes[at], bytes[at + 1], bytes[at + 2], bytes[at + 3]]);
-    Rate { value }
+    Rate::from(i32::from_be_bytes([bytes[at], bytes[at + 1], bytes[at + 2], bytes[at + 3]]))
 }

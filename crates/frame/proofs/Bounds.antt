@@ -50,14 +50,14 @@ tag_from_pass tag bounded suits = ⊎_elim
 pub not_among : (x : ℕ) (bs : List ℕ) → ((i : ℕ) → i < length bs → get_or bs i 0 ≡ x → ⊥) → among x bs ≡ false
 not_among x [] apart = refl
 not_among x (b ∷ bs) apart =
-    or_from (eqb x b) (among x bs)
-    (ne_eqb x b (λ (same : x ≡ b). apart 0 (omega arith) (sym same)))
+    or_from (eqb b x) (among x bs)
+    (ne_eqb b x (λ (same : b ≡ x). apart 0 (omega arith) same))
     (not_among x bs (λ i inside same. apart (suc i) (omega arith) same))
 
 pub apart_from : (x : ℕ) (bs : List ℕ) → among x bs ≡ false → (i : ℕ) → i < length bs → get_or bs i 0 ≡ x → ⊥
 apart_from x [] none i inside same = omega arith
-apart_from x (b ∷ bs) none zero inside same = eqb-false x b (or_parts (eqb x b) (among x bs) none).0 (sym same)
-apart_from x (b ∷ bs) none (suc i) inside same = apart_from x bs (or_parts (eqb x b) (among x bs) none).1 i (omega arith) same
+apart_from x (b ∷ bs) none zero inside same = eqb-false b x (or_parts (eqb b x) (among x bs) none).0 same
+apart_from x (b ∷ bs) none (suc i) inside same = apart_from x bs (or_parts (eqb b x) (among x bs) none).1 i (omega arith) same
 
 -- lawful members pass, one by one
 pub member_passes_lawful : (count : ℕ) (members : List ℕ) → LawfulMembers count members → (i : ℕ) → i < largest_group → member_passes members count i ≡ true

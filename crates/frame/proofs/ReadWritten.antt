@@ -1,29 +1,33 @@
 -- Whatever is read of a slot is lawful, and the slot holds what is written of it.
-use Rattle.std.proofs.Common.{◌≡◌, ℕ, ◌+◌, ◌-◌, ◌≤◌, true, eqb, List, [], ◌∷◌, ◌++◌, length, take, drop, replicate, Option, Result, sym, ap, ◌∙◌, subst, inl, inr, ⊎_elim, arith}
+use Rattle.std.proofs.Common.{◌≡◌, ℕ, ◌+◌, ◌-◌, ◌≤◌, true, List, [], ◌∷◌, ◌++◌, length, take, drop, replicate, Option, Result, sym, ap, ◌∙◌, subst, arith}
 use Rattle.std.proofs.lemmas.List.{append_assoc, length-append, length-take-le, length-drop}
-use Rattle.std.proofs.lemmas.Bool.{leb-true, eqb-true, or_cases}
+use Rattle.std.proofs.lemmas.Bool.{leb-true}
 use Rattle.content.specs.Bytes.{AllBytes}
 use Rattle.quorum.specs.Limits.{largest_group}
 use Rattle.frame.specs.declared.fault.FrameFault.{FrameFault}
+use Rattle.frame.specs.declared.kind.FrameKind.{FrameKind}
+use Rattle.frame.specs.declared.kind.FrameKind.TheVariants.{Get, GetAck, Put, PutAck, Freeze, Held, Update}
 use Rattle.frame.specs.Bytes.{two_bytes, head_bytes, tag_bytes, plain_bytes, copy_bytes, update_bytes, filled, bytes_of}
-use Rattle.frame.specs.Check.{checked, plain_runs, copy_runs, update_runs}
+use Rattle.frame.specs.Check.{frame_in, plain_runs, copy_runs, update_runs}
 use Rattle.frame.specs.Fields.{byte_at, word_at, all_zero, members_of, route_fields, number_operation_fields}
+use Rattle.frame.specs.Kinds.{kind_number}
 use Rattle.frame.specs.Lawful.{Lawful, LawfulRoute, LawfulStart, LawfulCopy, LawfulUpdate, LawfulMembers, LawfulAndWritten}
 use Rattle.frame.specs.Limits.{slot_size, highest_number, highest_operation}
 use Rattle.frame.specs.Messages.{Said, head_of, tag_at, told, reading}
 use Rattle.frame.proofs.Bounds.{node_from_pass, between_from_pass, members_from_pass, each_member_from_pass}
 use Rattle.frame.proofs.Copies.{tag_read_lawful, content_read_lawful, copy_stands}
-use Rattle.frame.proofs.Passing.{Form, Passed, checked_length, checked_passed, checked_from_told}
+use Rattle.frame.proofs.Passing.{Holds, holds_from_found, found_from_told}
 use Rattle.frame.proofs.Laws.{Laws}
 use Rattle.frame.proofs.Places.{byte_then_rest, word_then_rest, part_then_rest, rest_is_zeros}
 use Rattle.frame.proofs.Runs.{Pass, PassAll}
 
 -- a slot of 32 bytes
 module _ (slot : List ℕ) (bytes : AllBytes slot) (long : length slot ≡ slot_size) where
-  head_stands : slot ≡ head_bytes (byte_at slot 0) (head_of slot) ++ drop 4 slot
-  head_stands =
+  head_stands : (kind : FrameKind) → byte_at slot 0 ≡ kind_number kind → slot ≡ head_bytes kind (head_of slot) ++ drop 4 slot
+  head_stands kind first =
       byte_then_rest slot 0 (omega arith)
-      ∙ ap (λ (bs : List ℕ). byte_at slot 0 ∷ bs) (byte_then_rest slot 1 (omega arith)
+      ∙ ap (λ (b : ℕ). b ∷ drop 1 slot) first
+      ∙ ap (λ (bs : List ℕ). kind_number kind ∷ bs) (byte_then_rest slot 1 (omega arith)
       ∙ ap (λ (bs : List ℕ). byte_at slot 1 ∷ bs) (byte_then_rest slot 2 (omega arith)
       ∙ ap (λ (bs : List ℕ). byte_at slot 2 ∷ bs) (byte_then_rest slot 3 (omega arith))))
 
@@ -37,9 +41,9 @@ module _ (slot : List ℕ) (bytes : AllBytes slot) (long : length slot ≡ slot_
     operation_bounded = leb-true (word_at slot 4) highest_operation operation;
   }
 
-  plain_stands : (kind : ℕ) → byte_at slot 0 ≡ kind → Form slot (plain_runs slot) 6 → filled (plain_bytes kind (head_of slot) (word_at slot 4)) ≡ slot
-  plain_stands kind is (pass, rest) = sym
-      (head_stands ∙ ap (λ (k : ℕ). head_bytes k (head_of slot) ++ drop 4 slot) is
+  plain_stands : (kind : FrameKind) → byte_at slot 0 ≡ kind_number kind → all_zero (drop 6 slot) ≡ true → filled (plain_bytes kind (head_of slot) (word_at slot 4)) ≡ slot
+  plain_stands kind first rest = sym
+      (head_stands kind first
       ∙ ap (λ (bs : List ℕ). head_bytes kind (head_of slot) ++ bs) (word_then_rest slot 4 (omega arith) bytes
       ∙ ap (λ (bs : List ℕ). two_bytes (word_at slot 4) ++ bs) (rest_is_zeros slot 6 rest ∙ ap (λ (n : ℕ). replicate (n - 6) 0) long)))
 
@@ -51,7 +55,7 @@ module _ {C : Type 0} (width : ℕ) (meaning : C → List ℕ) (reads : List ℕ
     part_length i room = length-take-le width (drop i slot) (simp length-drop (omega arith))
 
     -- a put or held
-    module _ (kind : ℕ) (is : byte_at slot 0 ≡ kind) (pass : PassAll (copy_runs width reads slot)) (rest : all_zero (drop (9 + width) slot) ≡ true) where
+    module _ (kind : FrameKind) (first : byte_at slot 0 ≡ kind_number kind) (pass : PassAll (copy_runs width reads slot)) (rest : all_zero (drop (9 + width) slot) ≡ true) where
       copy_lawful : LawfulCopy meaning (head_of slot) (word_at slot 4) (tag_at slot 6) (take width (drop 9 slot))
       copy_lawful = record {
         start = start_lawful slot bytes long pass.0 pass.1.0;
@@ -66,13 +70,13 @@ module _ {C : Type 0} (width : ℕ) (meaning : C → List ℕ) (reads : List ℕ
           let takes : length (copy_bytes kind (head_of slot) (word_at slot 4) (tag_at slot 6) content) ≡ 9 + width = omega arith in
           let front = head_bytes kind (head_of slot) ++ (two_bytes (word_at slot 4) ++ tag_bytes (tag_at slot 6)) in
           ap (λ (n : ℕ). front ++ (content ++ replicate (slot_size - n) 0)) takes
-          ∙ sym (head_stands slot bytes long ∙ ap (λ (k : ℕ). head_bytes k (head_of slot) ++ drop 4 slot) is
+          ∙ sym (head_stands slot bytes long kind first
           ∙ ap (λ (bs : List ℕ). head_bytes kind (head_of slot) ++ bs) (word_then_rest slot 4 (omega arith) bytes
           ∙ ap (λ (bs : List ℕ). two_bytes (word_at slot 4) ++ bs)
           (copy_stands width meaning reads laws slot 6 bytes long (omega arith) pass.1.1 rest)))
 
     -- an update
-    module _ (is : byte_at slot 0 ≡ 7) (pass : PassAll (update_runs width reads slot)) (rest : all_zero (drop (15 + width) slot) ≡ true) where
+    module _ (first : byte_at slot 0 ≡ kind_number Update) (pass : PassAll (update_runs width reads slot)) (rest : all_zero (drop (15 + width) slot) ≡ true) where
       seven_members : length (members_of slot) ≡ largest_group
       seven_members = length-take-le largest_group (drop 5 slot) (simp length-drop (omega arith))
 
@@ -96,12 +100,12 @@ module _ {C : Type 0} (width : ℕ) (meaning : C → List ℕ) (reads : List ℕ
           let content = take width (drop 15 slot) in
           let size = part_length 15 (omega arith) in
           let seven = seven_members in
-          let front = head_bytes 7 (head_of slot) ++ (byte_at slot 4 ∷ []) in
+          let front = head_bytes Update (head_of slot) ++ (byte_at slot 4 ∷ []) in
           let takes : length (update_bytes (head_of slot) (byte_at slot 4) (members_of slot) (tag_at slot 12) content) ≡ 15 + width = simp length-append (omega arith) in
           ap (λ (n : ℕ). front ++ ((members_of slot ++ (tag_bytes (tag_at slot 12) ++ content)) ++ replicate (slot_size - n) 0)) takes
           ∙ ap (λ (bs : List ℕ). front ++ bs) (append_assoc (members_of slot) (tag_bytes (tag_at slot 12) ++ content) (replicate (slot_size - (15 + width)) 0))
-          ∙ sym (head_stands slot bytes long ∙ ap (λ (k : ℕ). head_bytes k (head_of slot) ++ drop 4 slot) is
-          ∙ ap (λ (bs : List ℕ). head_bytes 7 (head_of slot) ++ bs) (byte_then_rest slot 4 (omega arith)
+          ∙ sym (head_stands slot bytes long Update first
+          ∙ ap (λ (bs : List ℕ). head_bytes Update (head_of slot) ++ bs) (byte_then_rest slot 4 (omega arith)
           ∙ ap (λ (bs : List ℕ). byte_at slot 4 ∷ bs) (part_then_rest slot 5 largest_group
           ∙ ap (λ (bs : List ℕ). members_of slot ++ bs)
           (copy_stands width meaning reads laws slot 12 bytes long (omega arith) pass.1.1.1 rest))))
@@ -110,31 +114,24 @@ module _ {C : Type 0} (width : ℕ) (meaning : C → List ℕ) (reads : List ℕ
     abbrev Fitting : Said → Type 0
     Fitting message = Lawful meaning message × (bytes_of message ≡ slot)
 
-    -- where the kind is found to be a certain one, that case is enough
-    at_kind : (kind : ℕ) → (byte_at slot 0 ≡ kind → Fitting (told width slot kind)) → eqb (byte_at slot 0) kind ≡ true → Fitting (told width slot (byte_at slot 0))
-    at_kind kind fits same =
-        let is = eqb-true (byte_at slot 0) kind same in
-        subst (λ (k : ℕ). Fitting (told width slot k)) (sym is) (fits is)
+    plain_told : (kind : FrameKind) → byte_at slot 0 ≡ kind_number kind → PassAll (plain_runs slot) → all_zero (drop 6 slot) ≡ true
+        → LawfulStart (head_of slot) (word_at slot 4) × (filled (plain_bytes kind (head_of slot) (word_at slot 4)) ≡ slot)
+    plain_told kind first pass rest = (start_lawful slot bytes long pass.0 pass.1.0, plain_stands slot bytes long kind first rest)
 
-    told_fits : Passed width reads slot (byte_at slot 0) → Fitting (told width slot (byte_at slot 0))
-    told_fits (inl (plain, form)) =
-        let start = start_lawful slot bytes long form.0.0 form.0.1.0 in
-        ⊎_elim (at_kind 1 (λ is. (start, plain_stands slot bytes long 1 is form)))
-        (λ others. ⊎_elim (at_kind 2 (λ is. (start, plain_stands slot bytes long 2 is form)))
-        (λ others. ⊎_elim (at_kind 4 (λ is. (start, plain_stands slot bytes long 4 is form))) (at_kind 5 (λ is. (start, plain_stands slot bytes long 5 is form)))
-        (or_cases _ _ others)) (or_cases _ _ others)) (or_cases _ _ plain)
-    told_fits (inr (inl (copy, (pass, rest)))) =
-        ⊎_elim (at_kind 3 (λ is. (copy_lawful 3 is pass rest, copy_written 3 is pass rest))) (at_kind 6 (λ is. (copy_lawful 6 is pass rest, copy_written 6 is pass rest)))
-        (or_cases _ _ copy)
-    told_fits (inr (inr (is, (pass, rest)))) = subst (λ (k : ℕ). Fitting (told width slot k)) (sym is) (update_lawful is pass rest, update_written is pass rest)
+    told_fits : (kind : FrameKind) → Holds width reads slot kind → Fitting (told width slot kind)
+    told_fits Get held = plain_told Get held.first held.pass held.rest
+    told_fits GetAck held = plain_told GetAck held.first held.pass held.rest
+    told_fits Put held = (copy_lawful Put held.first held.pass held.rest, copy_written Put held.first held.pass held.rest)
+    told_fits PutAck held = plain_told PutAck held.first held.pass held.rest
+    told_fits Freeze held = plain_told Freeze held.first held.pass held.rest
+    told_fits Held held = (copy_lawful Held held.first held.pass held.rest, copy_written Held held.first held.pass held.rest)
+    told_fits Update held = (update_lawful held.first held.pass held.rest, update_written held.first held.pass held.rest)
 
   read_was_written : (slot : List ℕ) → AllBytes slot → LawfulAndWritten meaning slot (reading width reads slot)
   read_was_written slot bytes message same =
-      let found = checked_from_told width slot (checked width reads slot) message same in
-      let long = checked_length width reads slot found.0 found.1.0 in
-      let passed = checked_passed width reads slot found.0 found.1.0 in
-      let told_so = ap (told width slot) passed.0 ∙ found.1.1 in
-      subst (λ (m : Said). Lawful meaning m × (bytes_of m ≡ slot)) told_so (told_fits slot bytes long passed.1)
+      let (x, (found, is)) = found_from_told width slot (frame_in width reads slot) message same in
+      let held = holds_from_found width reads slot x found in
+      subst (λ (m : Said). Lawful meaning m × (bytes_of m ≡ slot)) is (told_fits slot bytes held.long x.0 held)
 
   -- the same of an answer that is what reading answers
   pub answer_was_written : (slot : List ℕ) (answer : Result Said FrameFault) → AllBytes slot → answer ≡ reading width reads slot → LawfulAndWritten meaning slot answer

@@ -1,19 +1,14 @@
 -- What checking a slot answers.
-use Rattle.std.specs.Prelude.{ℕ, ◌+◌, Bool, cond, ◌||◌, List, [], ◌∷◌, length, Ok, Err, Option, Result, ◌==◌}
+use Rattle.std.specs.Prelude.{ℕ, ◌+◌, List, [], ◌∷◌, length, Ok, Err, Option, Result, ◌==◌, if◌then◌else◌}
 use Rattle.std.specs.Result.{result_and}
-use Rattle.frame.specs.declared.fault.Cause.TheVariants.{Kind, Rest}
+use Rattle.frame.specs.declared.fault.Cause.TheVariants.{Rest}
 use Rattle.frame.specs.declared.fault.FrameFault.{FrameFault}
+use Rattle.frame.specs.declared.kind.FrameKind.{FrameKind}
+use Rattle.frame.specs.declared.kind.FrameKind.TheVariants.{Get, GetAck, Put, PutAck, Freeze, Held, Update}
 use Rattle.frame.specs.Faults.{fault}
 use Rattle.frame.specs.Fields.{Test, byte_at, verdict, judged_runs, route_fields, number_operation_fields, number_count_fields, member_fields, tag_fields, content_fields, rest_test}
+use Rattle.frame.specs.Kinds.{kind_number, kind_from}
 use Rattle.frame.specs.Limits.{slot_size}
-
--- get, get-ack, put-ack, freeze: nothing behind the operation
-abbrev pub is_plain : ℕ → Bool
-is_plain kind = kind == 1 || (kind == 2 || (kind == 4 || kind == 5))
-
--- put, held: a copy behind the operation
-abbrev pub is_copy : ℕ → Bool
-is_copy kind = kind == 3 || kind == 6
 
 -- the fields between kind and rest, in their order: of a frame without a copy,
 abbrev pub plain_runs : List ℕ → List (List Test)
@@ -28,19 +23,47 @@ abbrev pub update_runs : {C : Type 0} → ℕ → (List ℕ → Option C) → Li
 update_runs width reads slot =
     route_fields slot ∷ number_count_fields slot ∷ member_fields slot ∷ tag_fields slot 12 ∷ content_fields width reads slot 15 ∷ []
 
--- The kind and the number of bytes that its frame takes; or the fault of the first of these fields that fails.
-abbrev pub checked_kind : {C : Type 0} → ℕ → (List ℕ → Option C) → List ℕ → ℕ → Result (ℕ × ℕ) FrameFault
+-- those of each kind
+abbrev pub kind_runs : {C : Type 0} → ℕ → (List ℕ → Option C) → List ℕ → FrameKind → List (List Test)
+kind_runs width reads slot Get = plain_runs slot
+kind_runs width reads slot GetAck = plain_runs slot
+kind_runs width reads slot Put = copy_runs width reads slot
+kind_runs width reads slot PutAck = plain_runs slot
+kind_runs width reads slot Freeze = plain_runs slot
+kind_runs width reads slot Held = copy_runs width reads slot
+kind_runs width reads slot Update = update_runs width reads slot
+
+-- how many bytes a frame of each kind takes
+abbrev pub kind_takes : ℕ → FrameKind → ℕ
+kind_takes width Get = 6
+kind_takes width GetAck = 6
+kind_takes width Put = 9 + width
+kind_takes width PutAck = 6
+kind_takes width Freeze = 6
+kind_takes width Held = 9 + width
+kind_takes width Update = 15 + width
+
+-- The kind and the number of bytes that its frame takes; or the fault of the first field that fails, the rest behind those bytes last.
+abbrev pub checked_kind : {C : Type 0} → ℕ → (List ℕ → Option C) → List ℕ → FrameKind → Result (FrameKind × ℕ) FrameFault
 checked_kind width reads slot kind =
-    cond (is_plain kind) (judged_runs (plain_runs slot) (kind, 6))
-    (cond (is_copy kind) (judged_runs (copy_runs width reads slot) (kind, 9 + width))
-    (cond (kind == 7) (judged_runs (update_runs width reads slot) (kind, 15 + width))
-    (Err (fault Kind 0))))
+    result_and (judged_runs (kind_runs width reads slot kind) (tt {0}))
+    (result_and (verdict (rest_test slot (kind_takes width kind))) (Ok (kind, kind_takes width kind)))
 
--- the same, and then the rest behind those bytes
-abbrev pub then_rest : List ℕ → Result (ℕ × ℕ) FrameFault → Result (ℕ × ℕ) FrameFault
-then_rest slot (Ok found) = result_and (verdict (rest_test slot found.1)) (Ok found)
-then_rest slot (Err fault) = Err fault
+-- the same where the first byte gave a kind, else its fault
+abbrev pub checked_as : {C : Type 0} → ℕ → (List ℕ → Option C) → List ℕ → Result FrameKind FrameFault → Result (FrameKind × ℕ) FrameFault
+checked_as width reads slot (Ok kind) = checked_kind width reads slot kind
+checked_as width reads slot (Err fault) = Err fault
 
--- What checking answers, on every list of bytes. One that does not have 32 is at fault as a whole: cause rest, offset 0.
+-- The frame in a slot, on every list of bytes. One that does not have 32 is at fault as a whole: cause rest, offset 0.
+abbrev pub frame_in : {C : Type 0} → ℕ → (List ℕ → Option C) → List ℕ → Result (FrameKind × ℕ) FrameFault
+frame_in width reads slot =
+    if length slot == slot_size then checked_as width reads slot (kind_from (byte_at slot 0)) else Err (fault Rest 0)
+
+-- the kind by its number
+abbrev pub numbered : Result (FrameKind × ℕ) FrameFault → Result (ℕ × ℕ) FrameFault
+numbered (Ok found) = Ok (kind_number found.0, found.1)
+numbered (Err fault) = Err fault
+
+-- What checking answers: kind and length of the frame in the slot as two plain numbers, or the fault.
 abbrev pub checked : {C : Type 0} → ℕ → (List ℕ → Option C) → List ℕ → Result (ℕ × ℕ) FrameFault
-checked width reads slot = cond (length slot == slot_size) (then_rest slot (checked_kind width reads slot (byte_at slot 0))) (Err (fault Rest 0))
+checked width reads slot = numbered (frame_in width reads slot)

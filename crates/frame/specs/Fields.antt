@@ -1,6 +1,6 @@
 -- The fields of a frame in their order, each with its test, and the first that fails.
-use Rattle.std.specs.Prelude.{ℕ, ◌+◌, ◌*◌, Bool, true, false, cond, not, ◌&&◌, ◌||◌, List, [], ◌∷◌, map, take, drop, is_some, Ok, Err, Option, Result, ◌==◌, nat_le, nat_lt, slice_index}
-use Rattle.std.specs.List.{range_with_len}
+use Rattle.std.specs.Prelude.{ℕ, ◌+◌, ◌*◌, Bool, not, ◌&&◌, List, [], ◌∷◌, map, take, drop, is_some, Ok, Err, Option, Result, ◌==◌, nat_le, nat_lt, slice_index, if◌then◌else◌}
+use Rattle.std.specs.List.{range_with_len, list_all, list_any}
 use Rattle.std.specs.Result.{result_and}
 use Rattle.quorum.specs.Limits.{largest_group}
 use Rattle.frame.specs.declared.fault.Cause.{Cause}
@@ -23,13 +23,11 @@ members_of slot = take largest_group (drop 5 slot)
 
 -- all are 0
 abbrev pub all_zero : List ℕ → Bool
-all_zero [] = true
-all_zero (b ∷ bs) = b == 0 && all_zero bs
+all_zero bs = list_all (λ b. b == 0) bs
 
 -- x is among them
 abbrev pub among : ℕ → List ℕ → Bool
-among x [] = false
-among x (b ∷ bs) = x == b || among x bs
+among x bs = list_any (λ b. b == x) bs
 
 -- from 1 to 16
 abbrev pub is_node : ℕ → Bool
@@ -50,7 +48,7 @@ field passes offset = test passes Field offset
 
 -- nothing, or the fault of a field that does not pass
 abbrev pub verdict : Test → Result (Unit {0}) FrameFault
-verdict t = cond t.passes (Ok tt) (Err (fault t.cause t.offset))
+verdict t = if t.passes then Ok tt else Err (fault t.cause t.offset)
 
 -- the fault of the first field that fails, or the answer if all pass
 abbrev pub judged : {X : Type 0} → List Test → X → Result X FrameFault
@@ -79,7 +77,9 @@ number_count_fields slot =
 -- Member i of the seven passes: one of the first `count` is a node that is none of those before it, another is 0.
 abbrev pub member_passes : List ℕ → ℕ → ℕ → Bool
 member_passes members count i =
-    cond (nat_lt i count) (is_node (slice_index members i) && not (among (slice_index members i) (take i members))) (slice_index members i == 0)
+    if nat_lt i count
+    then is_node (slice_index members i) && not (among (slice_index members i) (take i members))
+    else slice_index members i == 0
 
 -- the seven members
 abbrev pub member_fields : List ℕ → List Test
@@ -87,7 +87,7 @@ member_fields slot = map (λ i. field (member_passes (members_of slot) (byte_at 
 
 -- A tag's node suits its version: 0 the version 0, a node any other.
 abbrev pub node_suits : ℕ → ℕ → Bool
-node_suits version node = cond (version == 0) (node == 0) (is_node node)
+node_suits version node = if version == 0 then node == 0 else is_node node
 
 -- a tag that begins at byte i: version, node
 abbrev pub tag_fields : List ℕ → ℕ → List Test

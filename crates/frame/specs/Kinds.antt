@@ -1,6 +1,6 @@
 -- The kinds of frame: their numbers, and their names as they are printed.
 use Rattle.std.specs.Prelude.{ℕ, List, Ok, Err, Result, codes, ◌==◌, if◌then◌else◌}
-use Rattle.frame.specs.declared.fault.Cause.TheVariants as cause
+use Rattle.frame.specs.declared.fault.Cause.TheVariants.{Kind}
 use Rattle.frame.specs.declared.fault.FrameFault.{FrameFault}
 use Rattle.frame.specs.declared.kind.FrameKind.{FrameKind}
 use Rattle.frame.specs.declared.kind.FrameKind.TheVariants.{Get, GetAck, Put, PutAck, Freeze, Held, Update}
@@ -26,7 +26,7 @@ kind_from n =
     else if n == 5 then Ok Freeze
     else if n == 6 then Ok Held
     else if n == 7 then Ok Update
-    else Err (fault cause.Kind 0)
+    else Err (fault Kind 0)
 
 -- a kind as it is printed
 abbrev pub shown_kind : FrameKind → List ℕ

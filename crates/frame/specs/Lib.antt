@@ -1,5 +1,6 @@
 pub mod Limits
 pub mod Faults
+pub mod Kinds
 pub mod Fields
 pub mod Check
 pub mod Messages

@@ -2,19 +2,20 @@
 ghost use Rattle.std.specs.Prelude.{◌≡◌, Some};
 ghost use Rattle.frame.specs.Faults.{number, shown_cause, shown_fault};
 
+use std::error::Error;
 use std::fmt;
 
 /// Which part of a frame is at fault.
 #[derive(Clone, Copy, Debug, PartialEq, Eq)]
 pub enum Cause {
     /// The first byte is no kind of frame.
-    Kind,
+    Kind = 1,
     /// A field other than kind, content and rest has no lawful value.
-    Field,
+    Field = 2,
     /// The content's bytes are none of its kind's own.
-    Content,
+    Content = 3,
     /// The bytes behind the frame are not all 0, or there are not 32 in all.
-    Rest,
+    Rest = 4,
 }
 
 /// Why bytes are no frame: what is at fault, and the place of its first byte; 0 if there are not 32 bytes.
@@ -29,12 +30,7 @@ impl Cause {
     pub fn number(self) -> u8
         ensures { result ≡ number self }
     {
-        match self {
-            Cause::Kind => 1,
-            Cause::Field => 2,
-            Cause::Content => 3,
-            Cause::Rest => 4,
-        }
+        self as u8
     }
 }
 
@@ -61,3 +57,5 @@ impl fmt::Display for FrameFault {
         write!(f, "cause {number} ({cause}), offset {offset}")
     }
 }
+
+impl Error for FrameFault {}

@@ -1,4 +1,9 @@
 //! What a frame says.
+ghost use Rattle.std.specs.Prelude.{◌≡◌};
+ghost use Rattle.frame.specs.Bytes.{kind_of};
+ghost use Rattle.frame.specs.Messages.{says};
+
+use crate::kind::FrameKind;
 
 /// What every frame begins with: whom it goes to, whom it comes from, and the number of the configuration that it speaks of.
 #[derive(Clone, Copy, Debug, PartialEq, Eq)]
@@ -60,4 +65,21 @@ pub enum Message<'a> {
         tag: Tag,
         content: &'a [u8],
     },
+}
+
+impl Message<'_> {
+    /// The kind of frame that says this.
+    pub fn kind(&self) -> FrameKind
+        ensures { result ≡ kind_of (says self.now) }
+    {
+        match self {
+            Message::Get { .. } => FrameKind::Get,
+            Message::GetAck { .. } => FrameKind::GetAck,
+            Message::Put { .. } => FrameKind::Put,
+            Message::PutAck { .. } => FrameKind::PutAck,
+            Message::Freeze { .. } => FrameKind::Freeze,
+            Message::Held { .. } => FrameKind::Held,
+            Message::Update { .. } => FrameKind::Update,
+        }
+    }
 }

@@ -4,15 +4,16 @@
 ghost use Rattle.std.specs.Prelude.{◌≡◌, Some};
 ghost use Rattle.refusal.specs.Numbers.{number, words, shown_refusal};
 
+use std::error::Error;
 use std::fmt;
 
 /// The reason of a refusal.
 #[derive(Clone, Copy, Debug, PartialEq, Eq)]
 pub enum Refusal {
     /// The frame table has no such slot.
-    NoSlot,
+    NoSlot = 3,
     /// What is to be made lies outside the bounds of its kind.
-    Unlawful,
+    Unlawful = 13,
 }
 
 impl Refusal {
@@ -20,10 +21,7 @@ impl Refusal {
     pub fn number(self) -> u8
         ensures { result ≡ number self }
     {
-        match self {
-            Refusal::NoSlot => 3,
-            Refusal::Unlawful => 13,
-        }
+        self as u8
     }
 
     /// The reason in words: `Refusal::Unlawful.words()` is "outside its bounds".
@@ -46,3 +44,5 @@ impl fmt::Display for Refusal {
         write!(f, "{number}: {words}")
     }
 }
+
+impl Error for Refusal {}

@@ -14,4 +14,4 @@ returns c =
     let b2 = c.type_inv.bytes (i + 2) in
     let b3 = c.type_inv.bytes (i + 3) in
     let fits : number_at bs i < 2 ^ 32 = omega arith in
-    same_rate _ (rate_of (number_at bs i)) (ap (λ (z : ℤ). to_z w32 (of_z w32 z)) c.from_be_bytes-value.ensures ∙ rate_value (number_at bs i) fits)
+    same_rate _ (rate_of (number_at bs i)) (c.from.ensures ∙ ap (λ (z : ℤ). to_z w32 (of_z w32 z)) c.from_be_bytes.ensures ∙ rate_value (number_at bs i) fits)
