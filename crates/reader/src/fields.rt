@@ -1,17 +1,18 @@
 //! The fields of a frame, a function for each run of them; each answers the fault of the first that fails.
-ghost use Rattle.std.specs.Prelude.{◌≡◌, ◌+◌, ◌<◌, ◌≤◌, length};
+ghost use Rattle.std.specs.Prelude.{◌≡◌, ◌+◌, ◌≤◌, ◌&&◌, ◌==◌, not, drop, if◌then◌else◌};
 ghost use Rattle.quorum.specs.Limits.{largest_group};
-ghost use Rattle.frame.specs.Fields.{judged, verdict, test, word_at, is_node, all_zero, among, member_passes, node_suits};
+ghost use Rattle.frame.specs.Fields.{judged, verdict, test, word_at, is_node, all_zero, among, node_suits};
 ghost use Rattle.frame.specs.Fields.{route_fields, number_operation_fields, number_count_fields, member_fields, tag_fields, content_fields, rest_test};
 ghost use Rattle.frame.specs.Limits.{slot_size};
 
 use content::Content;
-use frame::{Cause, FrameFault, HIGHEST_NODE, HIGHEST_NUMBER, HIGHEST_OPERATION, HIGHEST_VERSION};
+use frame::{
+    Cause, FrameFault, HIGHEST_NODE, HIGHEST_NUMBER, HIGHEST_OPERATION, HIGHEST_VERSION, SLOT,
+};
 use quorum::LARGEST_GROUP;
 
 /// Receiver and sender.
-pub(crate) fn route(slot: &[u8]) -> Result<(), FrameFault>
-    requires { length slot.now ≡ slot_size }
+pub(crate) fn route(slot: &[u8; SLOT]) -> Result<(), FrameFault>
     ensures { result ≡ judged (route_fields slot.now) tt }
 {
     require(is_node(slot[1]), Cause::Field, 1)?;
@@ -20,8 +21,7 @@ pub(crate) fn route(slot: &[u8]) -> Result<(), FrameFault>
 }
 
 /// Number and operation.
-pub(crate) fn number_and_operation(slot: &[u8]) -> Result<(), FrameFault>
-    requires { length slot.now ≡ slot_size }
+pub(crate) fn number_and_operation(slot: &[u8; SLOT]) -> Result<(), FrameFault>
     ensures { result ≡ judged (number_operation_fields slot.now) tt }
 {
     require(slot[3] <= HIGHEST_NUMBER, Cause::Field, 3)?;
@@ -30,35 +30,32 @@ pub(crate) fn number_and_operation(slot: &[u8]) -> Result<(), FrameFault>
 }
 
 /// Number and count of an update.
-pub(crate) fn number_and_count(slot: &[u8]) -> Result<(), FrameFault>
-    requires { length slot.now ≡ slot_size }
+pub(crate) fn number_and_count(slot: &[u8; SLOT]) -> Result<(), FrameFault>
     ensures { result ≡ judged (number_count_fields slot.now) tt }
 {
-    require(1 <= slot[3] && slot[3] <= HIGHEST_NUMBER, Cause::Field, 3)?;
-    require(
-        1 <= slot[4] && usize::from(slot[4]) <= LARGEST_GROUP,
-        Cause::Field,
-        4,
-    )?;
+    require((1..=HIGHEST_NUMBER).contains(&slot[3]), Cause::Field, 3)?;
+    let count = usize::from(slot[4]);
+    require((1..=LARGEST_GROUP).contains(&count), Cause::Field, 4)?;
     Ok(())
 }
 
 /// The seven members of an update.
-pub(crate) fn members(slot: &[u8]) -> Result<(), FrameFault>
-    requires { length slot.now ≡ slot_size }
+#[tactic(auto, using(crate::proofs::Steps::members_more, crate::proofs::Steps::members_end))]
+pub(crate) fn members(slot: &[u8; SLOT]) -> Result<(), FrameFault>
     ensures { result ≡ judged (member_fields slot.now) tt }
 {
     let count = usize::from(slot[4]);
     let members = &slot[5..12];
-    for i in 0..LARGEST_GROUP {
-        require(member_passes(members, count, i), Cause::Field, 5 + i)?;
+    for (i, member) in members.iter().enumerate() {
+        let passes = member_passes(*member, &members[..i], i < count);
+        require(passes, Cause::Field, 5 + i)?;
     }
     Ok(())
 }
 
 /// Version and node of the tag that begins at a place.
-pub(crate) fn tag(slot: &[u8], at: usize) -> Result<(), FrameFault>
-    requires { (at + 3 ≤ length slot.now) × (length slot.now ≡ slot_size) }
+pub(crate) fn tag(slot: &[u8; SLOT], at: usize) -> Result<(), FrameFault>
+    requires { at + 3 ≤ slot_size }
     ensures { result ≡ judged (tag_fields slot.now at) tt }
 {
     let version = word(slot, at);
@@ -68,8 +65,8 @@ pub(crate) fn tag(slot: &[u8], at: usize) -> Result<(), FrameFault>
 }
 
 /// The content that begins at a place: its bytes go to the kind of content, which says whether they are its own.
-pub(crate) fn content<C: Content>(slot: &[u8], at: usize) -> Result<(), FrameFault>
-    requires { at + C.width ≤ length slot.now }
+pub(crate) fn content<C: Content>(slot: &[u8; SLOT], at: usize) -> Result<(), FrameFault>
+    requires { at + C.width ≤ slot_size }
     ensures { result ≡ judged (content_fields C.width C.reads slot.now at) tt }
 {
     let bytes = &slot[at..at + C::width()];
@@ -78,16 +75,15 @@ pub(crate) fn content<C: Content>(slot: &[u8], at: usize) -> Result<(), FrameFau
 }
 
 /// The rest of the slot, from a place on.
-pub(crate) fn rest(slot: &[u8], at: usize) -> Result<(), FrameFault>
-    requires { at ≤ length slot.now }
+pub(crate) fn rest(slot: &[u8; SLOT], at: usize) -> Result<(), FrameFault>
     ensures { result ≡ verdict (rest_test slot.now at) }
 {
-    require(all_zero(&slot[at..]), Cause::Rest, at)
+    require(zero_from(slot, at), Cause::Rest, at)
 }
 
 /// The number of the two bytes at a place, the high one first.
-pub(crate) fn word(slot: &[u8], at: usize) -> u16
-    requires { (at + 2 ≤ length slot.now) × (length slot.now ≡ slot_size) }
+pub(crate) fn word(slot: &[u8; SLOT], at: usize) -> u16
+    requires { at + 2 ≤ slot_size }
     ensures { result ≡ word_at slot.now at }
 {
     u16::from_be_bytes([slot[at], slot[at + 1]])
@@ -107,7 +103,7 @@ fn require(passes: bool, cause: Cause, offset: usize) -> Result<(), FrameFault>
 fn is_node(n: u8) -> bool
     ensures { result ≡ is_node n }
 {
-    1 <= n && n <= HIGHEST_NODE
+    (1..=HIGHEST_NODE).contains(&n)
 }
 
 fn node_suits(version: u16, node: u8) -> bool
@@ -120,37 +116,20 @@ fn node_suits(version: u16, node: u8) -> bool
     }
 }
 
-// One of the first members is a node that is none of those before it, another is 0.
-fn member_passes(members: &[u8], count: usize, i: usize) -> bool
-    requires { (length members.now ≡ largest_group) × (i < largest_group) }
-    ensures { result ≡ member_passes members.now count i }
+// A counted member is a node that is none of those before it, any other is 0.
+fn member_passes(member: u8, before: &[u8], counted: bool) -> bool
+    ensures { result ≡ (if counted then is_node member && not (among member before.now) else member == 0) }
 {
-    let member = members[i];
-    if i < count {
-        is_node(member) && !among(member, &members[0..i])
+    if counted {
+        is_node(member) && !before.contains(&member)
     } else {
         member == 0
     }
 }
 
-fn among(member: u8, others: &[u8]) -> bool
-    ensures { result ≡ among member others.now }
+// Whether every byte from a place on is 0.
+fn zero_from(slot: &[u8; SLOT], at: usize) -> bool
+    ensures { result ≡ all_zero (drop at slot.now) }
 {
-    for other in others {
-        if member == *other {
-            return true;
-        }
-    }
-    false
-}
-
-fn all_zero(bytes: &[u8]) -> bool
-    ensures { result ≡ all_zero bytes.now }
-{
-    for byte in bytes {
-        if *byte != 0 {
-            return false;
-        }
-    }
-    true
+    slot.iter().skip(at).all(|byte| *byte == 0)
 }

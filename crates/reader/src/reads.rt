@@ -4,45 +4,45 @@ ghost use Rattle.frame.specs.Lawful.{LawfulAndWritten};
 ghost use Rattle.frame.specs.Limits.{slot_size};
 ghost use Rattle.frame.specs.Messages.{says, answers, reading, told, head_of, tag_at};
 
-use crate::checks::check;
+use crate::checks::{frame_in, whole};
 use crate::fields::word;
 use content::Content;
-use frame::{FrameFault, Head, Message, Tag};
+use frame::{FrameFault, FrameKind, Head, Message, SLOT, Tag};
 
 /// What the frame in a slot says, members and content as parts of the slot; or the fault that `check` answers.
 pub fn read<'a, C: Content>(slot: &'a [u8]) -> Result<Message<'a>, FrameFault>
     ensures answer { answers result ≡ reading C.width C.reads slot.now }
     ensures lawful_and_written { LawfulAndWritten C.meaning slot.now (answers result) }
 {
-    let (kind, _) = check::<C>(slot)?;
+    let slot = whole(slot)?;
+    let (kind, _) = frame_in::<C>(slot)?;
     Ok(told::<C>(slot, kind))
 }
 
 // What a slot of this kind says.
-fn told<'a, C: Content>(slot: &'a [u8], kind: u8) -> Message<'a>
-    requires { length slot.now ≡ slot_size }
+fn told<'a, C: Content>(slot: &'a [u8; SLOT], kind: FrameKind) -> Message<'a>
     ensures { says result ≡ told C.width slot.now kind }
 {
     let head = head(slot);
     let operation = word(slot, 4);
     match kind {
-        1 => Message::Get { head, operation },
-        2 => Message::GetAck { head, operation },
-        3 => Message::Put {
+        FrameKind::Get => Message::Get { head, operation },
+        FrameKind::GetAck => Message::GetAck { head, operation },
+        FrameKind::Put => Message::Put {
             head,
             operation,
             tag: tag(slot, 6),
             content: &slot[9..9 + C::width()],
         },
-        4 => Message::PutAck { head, operation },
-        5 => Message::Freeze { head, operation },
-        6 => Message::Held {
+        FrameKind::PutAck => Message::PutAck { head, operation },
+        FrameKind::Freeze => Message::Freeze { head, operation },
+        FrameKind::Held => Message::Held {
             head,
             operation,
             tag: tag(slot, 6),
             content: &slot[9..9 + C::width()],
         },
-        _ => Message::Update {
+        FrameKind::Update => Message::Update {
             head,
             count: slot[4],
             members: &slot[5..12],
@@ -52,8 +52,7 @@ fn told<'a, C: Content>(slot: &'a [u8], kind: u8) -> Message<'a>
     }
 }
 
-fn head(slot: &[u8]) -> Head
-    requires { length slot.now ≡ slot_size }
+fn head(slot: &[u8; SLOT]) -> Head
     ensures { result ≡ head_of slot.now }
 {
     Head {
@@ -63,8 +62,8 @@ fn head(slot: &[u8]) -> Head
     }
 }
 
-fn tag(slot: &[u8], at: usize) -> Tag
-    requires { (at + 3 ≤ length slot.now) × (length slot.now ≡ slot_size) }
+fn tag(slot: &[u8; SLOT], at: usize) -> Tag
+    requires { at + 3 ≤ slot_size }
     ensures { result ≡ tag_at slot.now at }
 {
     Tag {

@@ -1,5 +1,5 @@
 //! The bytes of a message, laid into its slot.
-ghost use Rattle.std.specs.Prelude.{◌≡◌, ◌+◌, ◌≤◌, true, length, replicate};
+ghost use Rattle.std.specs.Prelude.{◌≡◌, ◌+◌, ◌≤◌, true, length};
 ghost use Rattle.content.specs.Bytes.{widest};
 ghost use Rattle.quorum.specs.Limits.{largest_group};
 ghost use Rattle.frame.specs.Bytes.{plain_bytes, copy_bytes, update_bytes, filled, bytes_of, tag_bytes, fits};
@@ -8,81 +8,96 @@ ghost use Rattle.frame.specs.Messages.{says};
 ghost use Rattle.writer.specs.Layout.{laid};
 
 use content::Content;
-use frame::{Head, Message, Tag};
+use frame::{FrameKind, Head, Message, SLOT, Tag};
 
 /// Writes a message over the 32 bytes of a slot.
 pub(crate) fn write<C: Content>(slot: &mut [u8], message: Message<'_>)
-    requires { (length slot.old ≡ slot_size) × (fits C.width (says message) ≡ true) }
+    requires whole { length slot.old ≡ slot_size }
+    requires fitting { fits C.width (says message) ≡ true }
     ensures { slot.new ≡ bytes_of (says message.entry) }
 {
+    slot.copy_from_slice(&bytes_of::<C>(message));
+}
+
+// A message as the bytes of its slot.
+fn bytes_of<C: Content>(message: Message<'_>) -> [u8; SLOT]
+    requires { fits C.width (says message) ≡ true }
+    ensures { result ≡ bytes_of (says message.entry) }
+{
+    let kind = message.kind();
     match message {
-        Message::Get { head, operation } => plain(slot, 1, head, operation),
-        Message::GetAck { head, operation } => plain(slot, 2, head, operation),
+        Message::Get { head, operation }
+        | Message::GetAck { head, operation }
+        | Message::PutAck { head, operation }
+        | Message::Freeze { head, operation } => plain(kind, head, operation),
         Message::Put {
             head,
             operation,
             tag,
             content,
-        } => with_copy(slot, 3, head, operation, tag, content),
-        Message::PutAck { head, operation } => plain(slot, 4, head, operation),
-        Message::Freeze { head, operation } => plain(slot, 5, head, operation),
-        Message::Held {
+        }
+        | Message::Held {
             head,
             operation,
             tag,
             content,
-        } => with_copy(slot, 6, head, operation, tag, content),
+        } => with_copy(kind, head, operation, tag, content),
         Message::Update {
             head,
             count,
             members,
             tag,
             content,
-        } => update(slot, head, count, members, tag, content),
+        } => update(head, count, members, tag, content),
     }
 }
 
 // A get, get-ack, put-ack or freeze.
-fn plain(slot: &mut [u8], kind: u8, head: Head, operation: u16)
-    requires { length slot.old ≡ slot_size }
-    ensures { slot.new ≡ filled (plain_bytes kind head operation) }
+fn plain(kind: FrameKind, head: Head, operation: u16) -> [u8; SLOT]
+    ensures { result ≡ filled (plain_bytes kind head operation) }
 {
+    let mut slot = [0; SLOT];
+    let number = kind.number();
     let [high, low] = operation.to_be_bytes();
-    clear(slot);
     lay(
-        slot,
+        &mut slot,
         0,
-        &[kind, head.receiver, head.sender, head.number, high, low],
+        &[number, head.receiver, head.sender, head.number, high, low],
     );
+    slot
 }
 
 // A put or held.
-fn with_copy(slot: &mut [u8], kind: u8, head: Head, operation: u16, tag: Tag, content: &[u8])
-    requires { (length slot.old ≡ slot_size) × (length content.now ≤ widest) }
-    ensures { slot.new ≡ filled (copy_bytes kind head operation tag content.now) }
+fn with_copy(kind: FrameKind, head: Head, operation: u16, tag: Tag, content: &[u8]) -> [u8; SLOT]
+    requires { length content.now ≤ widest }
+    ensures { result ≡ filled (copy_bytes kind head operation tag content.now) }
 {
-    plain(slot, kind, head, operation);
-    lay_copy(slot, 6, tag, content);
+    let mut slot = plain(kind, head, operation);
+    lay_copy(&mut slot, 6, tag, content);
+    slot
 }
 
 // An update.
-fn update(slot: &mut [u8], head: Head, count: u8, members: &[u8], tag: Tag, content: &[u8])
-    requires { (length slot.old ≡ slot_size) × ((length members.now ≡ largest_group) × (length content.now ≤ widest)) }
-    ensures { slot.new ≡ filled (update_bytes head count members.now tag content.now) }
+fn update(head: Head, count: u8, members: &[u8], tag: Tag, content: &[u8]) -> [u8; SLOT]
+    requires seven { length members.now ≡ largest_group }
+    requires bounded { length content.now ≤ widest }
+    ensures { result ≡ filled (update_bytes head count members.now tag content.now) }
 {
-    clear(slot);
+    let mut slot = [0; SLOT];
+    let number = FrameKind::Update.number();
     lay(
-        slot,
+        &mut slot,
         0,
-        &[7, head.receiver, head.sender, head.number, count],
+        &[number, head.receiver, head.sender, head.number, count],
     );
-    lay(slot, 5, members);
-    lay_copy(slot, 12, tag, content);
+    lay(&mut slot, 5, members);
+    lay_copy(&mut slot, 12, tag, content);
+    slot
 }
 
 // A tag and a content behind it.
-fn lay_copy(slot: &mut [u8], at: usize, tag: Tag, content: &[u8])
-    requires { (at + 3 + length content.now ≤ length slot.old) × (length slot.old ≡ slot_size) }
+fn lay_copy(slot: &mut [u8; SLOT], at: usize, tag: Tag, content: &[u8])
+    requires { at + 3 + length content.now ≤ slot_size }
     ensures { slot.new ≡ laid (laid slot.old at (tag_bytes tag)) (at + 3) content.now }
 {
     let [high, low] = tag.version.to_be_bytes();
@@ -90,16 +105,9 @@ fn lay_copy(slot: &mut [u8], at: usize, tag: Tag, content: &[u8])
     lay(slot, at + 3, content);
 }
 
-// Makes every byte 0.
-fn clear(slot: &mut [u8])
-    ensures { slot.new ≡ replicate (length slot.old) 0 }
-{
-    slot.fill(0);
-}
-
 // Writes bytes over those of the slot that begin at a place.
-fn lay(slot: &mut [u8], at: usize, bytes: &[u8])
-    requires { at + length bytes.now ≤ length slot.old }
+fn lay(slot: &mut [u8; SLOT], at: usize, bytes: &[u8])
+    requires { at + length bytes.now ≤ slot_size }
     ensures { slot.new ≡ laid slot.old at bytes.now }
 {
     let end = at + bytes.len();

@@ -1,4 +1,5 @@
-use Rattle.std.proofs.Common.{◌≡◌, ℕ, List, [], ◌∷◌, ◌++◌, length, replicate, refl, ap, ◌∙◌, append_assoc, arith, length-append}
+use Rattle.std.proofs.Common.{◌≡◌, List, ℕ, [], ◌∷◌, ◌++◌, length, refl, ap, ◌∙◌, append_assoc, arith, length-append}
+use Rattle.frame.specs.declared.kind.FrameKind.TheVariants.{Update}
 use Rattle.frame.specs.Bytes.{head_bytes, tag_bytes, filled}
 use Rattle.writer.proofs.Laying.{laid_behind, copy_behind}
 use Rattle.writer.proofs.layout.update.Goals as goal
@@ -6,14 +7,12 @@ use Rattle.writer.proofs.layout.update.Goals as goal
 -- each part is laid right behind those before it
 pub returns : goal.returns
 returns c =
-    let start : List ℕ = head_bytes 7 c.args.head ++ (c.args.count ∷ []) in
+    let start : List ℕ = head_bytes Update c.args.head ++ (c.args.count ∷ []) in
     let members : List ℕ = c.args.members.now in
     let content : List ℕ = c.args.content.now in
     let tag : List ℕ = tag_bytes c.args.tag in
-    let long : length c.args.slot.now ≡ 32 = omega arith in
     let twelve : length (start ++ members) ≡ 12 = simp length-append (omega arith) in
-    let cleared : c.clear.new.slot ≡ filled [] = c.clear.ensures ∙ ap (λ (n : ℕ). replicate n 0) long in
-    let started : c.lay.new.slot ≡ filled start = c.lay.ensures ∙ laid_behind _ [] start 0 cleared refl in
+    let started : c.lay.new.slot ≡ filled start = cc in
     let grouped : c.lay-2.new.slot ≡ filled (start ++ members) = c.lay-2.ensures ∙ laid_behind _ start members 5 started refl in
     c.lay_copy.ensures ∙ copy_behind _ (start ++ members) content c.args.tag 12 grouped twelve
     ∙ ap filled (append_assoc (start ++ members) tag content ∙ append_assoc start members (tag ++ content))

@@ -3,7 +3,8 @@ use Rattle.frame.specs.Bytes.{plain_bytes}
 use Rattle.writer.proofs.Laying.{copy_behind}
 use Rattle.writer.proofs.layout.with_copy.Goals as goal
 
+-- the copy is laid right behind the operation
 pub returns : goal.returns
 returns c =
     let front = plain_bytes c.args.kind c.args.head c.args.operation in
-    c.lay_copy.ensures ∙ copy_behind _ front c.args.content.now c.args.tag 6 c.plain.ensures refl
+    c.lay_copy.ensures ∙ copy_behind _ front c.args.content.now c.args.tag 6 c.plain-slot.ensures refl
