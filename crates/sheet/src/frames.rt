@@ -16,14 +16,13 @@ pub(crate) fn show_puts(
     receivers: [u8; 3],
 ) -> io::Result<()> {
     let mut frames = [0u8; 3 * SLOT];
-    match put_to_each(&mut frames, quote, sender, receivers) {
-        Ok(()) => {
-            show_frame(rt, &frames[0..SLOT])?;
-            show_frame(rt, &frames[SLOT..2 * SLOT])?;
-            show_frame(rt, &frames[2 * SLOT..3 * SLOT])
-        }
-        Err(refusal) => println!(rt; "    refused {refusal}"),
+    if let Err(refusal) = put_to_each(&mut frames, quote, sender, receivers) {
+        return println!(rt; "    refused {refusal}");
     }
+    for slot in frames.chunks_exact(SLOT) {
+        show_frame(rt, slot)?;
+    }
+    Ok(())
 }
 
 fn put_to_each(
@@ -37,9 +36,9 @@ fn put_to_each(
         version: 1,
         node: sender,
     };
-    for (slot, receiver) in receivers.iter().enumerate() {
+    for (slot, receiver) in receivers.into_iter().enumerate() {
         let head = Head {
-            receiver: *receiver,
+            receiver,
             sender,
             number: 0,
         };
@@ -47,7 +46,7 @@ fn put_to_each(
             head,
             operation: 0,
             tag,
-            content: &content[0..Quote::width()],
+            content: &content[..Quote::width()],
         };
         place::<Quote>(frames, slot, put)?;
     }
@@ -63,8 +62,7 @@ pub(crate) fn show_frame(rt: &HostRuntime, slot: &[u8]) -> io::Result<()> {
             show_fields(rt, slot, kind, length)
         }
         Err(fault) => {
-            let hexadecimal = Hexadecimal(slot);
-            println!(rt; "    bytes {hexadecimal}")?;
+            println!(rt; "    bytes {}", Hexadecimal(slot))?;
             println!(rt; "    fault {fault}")
         }
     }
@@ -86,7 +84,6 @@ fn name_of(message: Result<Message<'_>, FrameFault>) -> &'static str {
 // Each field on a line of its own.
 fn show_fields(rt: &HostRuntime, slot: &[u8], kind: u8, length: usize) -> io::Result<()> {
     for (offset, byte) in slot.iter().enumerate() {
-        let byte = *byte;
         match field_at(kind, offset, length) {
             Some(name) => print!(rt; "\n        {name} {byte:02X}")?,
             None => print!(rt; " {byte:02X}")?,

@@ -22,18 +22,20 @@ use text::{Hexadecimal, Places};
 fn main(rt: HostRuntime) -> io::Result<()> {
     for line in rt.lines(rt.alloc()) {
         let line = line?;
-        let text = line.as_str();
-        println!(rt; "{text}")?;
-        answer(&rt, parse(text))?;
+        println!(rt; "{line}")?;
+        match parse(&line) {
+            Ok(Some(request)) => answer(&rt, request)?,
+            Ok(None) => {}
+            Err(error) => println!(rt; "    {error}")?,
+        }
     }
     Ok(())
 }
 
 fn answer(rt: &HostRuntime, request: Request) -> io::Result<()> {
     match request {
-        Request::Comment => Ok(()),
         Request::Quote { bid, ask } => show_content(rt, Quote::new(bid, ask)),
-        Request::QuoteBytes { bytes } => show_quote_bytes(rt, bytes),
+        Request::QuoteBytes { bytes } => show_read(rt, Quote::from_bytes(&bytes)),
         Request::Curve { rates } => show_curve(rt, rates),
         Request::Majority { size } => show_group(rt, &Majority, size),
         Request::Weighted { weights, size } => show_weighted_group(rt, weights, size),
@@ -44,7 +46,6 @@ fn answer(rt: &HostRuntime, request: Request) -> io::Result<()> {
             receivers,
         } => show_puts(rt, Quote::new(bid, ask), sender, receivers),
         Request::Frame { bytes } => show_frame(rt, &bytes),
-        Request::Unknown => println!(rt; "    not understood"),
     }
 }
 
@@ -56,8 +57,7 @@ fn show_content<C: Content + Display>(
     match made {
         Ok(content) => {
             let bytes = content.to_bytes();
-            let hexadecimal = Hexadecimal(&bytes[0..C::width()]);
-            println!(rt; "    bytes {hexadecimal}")?;
+            println!(rt; "    bytes {}", Hexadecimal(&bytes[..C::width()]))?;
             show_read(rt, read_back(&content))
         }
         Err(refusal) => println!(rt; "    refused {refusal}"),
@@ -67,10 +67,6 @@ fn show_content<C: Content + Display>(
 fn show_curve(rt: &HostRuntime, rates: [i32; 4]) -> io::Result<()> {
     let [first, second, third, fourth] = rates;
     show_content(rt, Ok(Curve::new(first, second, third, fourth)))
-}
-
-fn show_quote_bytes(rt: &HostRuntime, bytes: [u8; 8]) -> io::Result<()> {
-    show_read(rt, Quote::from_bytes(&bytes))
 }
 
 // What bytes were read as.
@@ -103,11 +99,8 @@ fn show_group<Q: QuorumRule>(rt: &HostRuntime, rule: &Q, size: u8) -> io::Result
 fn show_sets<Q: QuorumRule>(rt: &HostRuntime, rule: &Q, size: u8, winning: bool) -> io::Result<()>
     requires { size ≤ largest_group }
 {
-    for set in 1..1u8 << size {
-        if rule.wins(size, set) == winning {
-            let places = Places(set);
-            print!(rt; " {places}")?;
-        }
+    for set in (1..1u8 << size).filter(|set| rule.wins(size, *set) == winning) {
+        print!(rt; " {}", Places(set))?;
     }
     println!(rt; "")
 }

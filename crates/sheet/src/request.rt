@@ -1,14 +1,14 @@
 //! Requests, as they stand on a line.
 use frame::SLOT;
 use quorum::LARGEST_GROUP;
+use std::error::Error;
+use std::fmt;
 use std::num::ParseIntError;
 use std::str::{FromStr, SplitWhitespace};
 
 /// What a line asks for.
 #[derive(Clone, Copy)]
 pub enum Request {
-    /// an empty line, or one that begins with '#'
-    Comment,
     /// `quote BID ASK`: make it, write it, read it back
     Quote {
         bid: u32,
@@ -42,141 +42,129 @@ pub enum Request {
     Frame {
         bytes: [u8; SLOT],
     },
-    /// a line that is none of these
-    Unknown,
 }
 
-/// What the line asks for.
-pub(crate) fn parse(line: &str) -> Request {
-    let mut words = line.split_whitespace();
-    let Some(first) = words.next() else {
-        return Request::Comment;
+/// A line that is no request.
+#[derive(Clone, Copy, Debug, PartialEq, Eq)]
+pub struct NotUnderstood;
+
+impl fmt::Display for NotUnderstood {
+    fn fmt<W: fmt::Write>(&self, f: &mut fmt::Formatter<W>) -> fmt::Result {
+        write!(f, "not understood")
+    }
+}
+
+impl Error for NotUnderstood {}
+
+/// What the line asks for; nothing if it is empty or begins with '#'.
+pub(crate) fn parse(line: &str) -> Result<Option<Request>, NotUnderstood> {
+    let mut words = Words(line.split_whitespace());
+    let Some(name) = words.word().filter(|word| !word.starts_with('#')) else {
+        return Ok(None);
     };
-    if first.starts_with('#') {
-        return Request::Comment;
+    let request = words.request(name).ok_or(NotUnderstood)?;
+    Ok(Some(request))
+}
+
+// The words of a line that are still to be read.
+#[derive(Drop)]
+struct Words<'a>(SplitWhitespace<'a>);
+
+impl<'a> Words<'a> {
+    fn word(&mut self) -> Option<&'a str> {
+        self.0.next()
     }
-    let asked = match first {
-        "quote" => quote(&mut words),
-        "bytes" => quote_bytes(&mut words),
-        "curve" => curve(&mut words),
-        "majority" => majority(&mut words),
-        "weighted" => weighted(&mut words),
-        "put" => put(&mut words),
-        "frame" => frame(&mut words),
-        _ => None,
-    };
-    match (asked, words.next()) {
-        (Some(request), None) => request,
-        _ => Request::Unknown,
-    }
-}
 
-fn quote(words: &mut SplitWhitespace<'_>) -> Option<Request> {
-    let mut sides = [0u32; 2];
-    let count = numbers(words, &mut sides)?;
-    let [bid, ask] = sides;
-    if count == 2 {
-        Some(Request::Quote { bid, ask })
-    } else {
-        None
-    }
-}
-
-fn curve(words: &mut SplitWhitespace<'_>) -> Option<Request> {
-    let mut rates = [0i32; 4];
-    let count = numbers(words, &mut rates)?;
-    if count == 4 {
-        Some(Request::Curve { rates })
-    } else {
-        None
-    }
-}
-
-fn majority(words: &mut SplitWhitespace<'_>) -> Option<Request> {
-    let size = words.next()?.parse::<u8>().ok()?;
-    Some(Request::Majority { size })
-}
-
-fn weighted(words: &mut SplitWhitespace<'_>) -> Option<Request> {
-    let mut weights = [0u8; LARGEST_GROUP];
-    let count = numbers(words, &mut weights)?;
-    let size = u8::try_from(count).ok()?;
-    Some(Request::Weighted { weights, size })
-}
-
-fn put(words: &mut SplitWhitespace<'_>) -> Option<Request> {
-    let mut sides = [0u32; 2];
-    let mut sender = [0u8; 1];
-    let mut receivers = [0u8; 3];
-    all_numbers(words, &mut sides)?;
-    expect(words, "from")?;
-    all_numbers(words, &mut sender)?;
-    expect(words, "to")?;
-    all_numbers(words, &mut receivers)?;
-    let [bid, ask] = sides;
-    let [sender] = sender;
-    Some(Request::Put {
-        bid,
-        ask,
-        sender,
-        receivers,
-    })
-}
-
-fn expect(words: &mut SplitWhitespace<'_>, word: &str) -> Option<()> {
-    if words.next()? == word {
-        Some(())
-    } else {
-        None
-    }
-}
-
-fn frame(words: &mut SplitWhitespace<'_>) -> Option<Request> {
-    let mut bytes = [0; SLOT];
-    for byte in bytes.iter_mut() {
-        let Some(word) = words.next() else {
-            break;
+    // The request of this name, whose words are all that are left.
+    fn request(&mut self, name: &str) -> Option<Request> {
+        let request = match name {
+            "quote" => {
+                let [bid, ask]: [u32; 2] = self.all(number)?;
+                Request::Quote { bid, ask }
+            }
+            "bytes" => {
+                let bytes = self.all(hexadecimal_byte)?;
+                Request::QuoteBytes { bytes }
+            }
+            "curve" => {
+                let rates = self.all(number)?;
+                Request::Curve { rates }
+            }
+            "majority" => {
+                let size = self.word().and_then(number)?;
+                Request::Majority { size }
+            }
+            "weighted" => self.weighted()?,
+            "put" => self.put()?,
+            "frame" => self.frame()?,
+            _ => return None,
         };
-        *byte = hexadecimal_byte(word)?;
+        self.word().is_none().then_some(request)
     }
-    Some(Request::Frame { bytes })
+
+    fn weighted(&mut self) -> Option<Request> {
+        let mut weights = [0; LARGEST_GROUP];
+        let given = self.fill(&mut weights, number)?;
+        let size = u8::try_from(given).ok()?;
+        Some(Request::Weighted { weights, size })
+    }
+
+    fn put(&mut self) -> Option<Request> {
+        let [bid, ask]: [u32; 2] = self.all(number)?;
+        self.expect("from")?;
+        let sender = self.word().and_then(number)?;
+        self.expect("to")?;
+        let receivers = self.all(number)?;
+        Some(Request::Put {
+            bid,
+            ask,
+            sender,
+            receivers,
+        })
+    }
+
+    fn frame(&mut self) -> Option<Request> {
+        let mut bytes = [0; SLOT];
+        self.fill(&mut bytes, hexadecimal_byte)?;
+        Some(Request::Frame { bytes })
+    }
+
+    fn expect(&mut self, wanted: &str) -> Option<()> {
+        (self.word()? == wanted).then_some(())
+    }
+
+    // As many values as the caller takes; none if the words are too few, or one is no value.
+    fn all<T: Copy + Default, const N: usize, F: Fn(&str) -> Option<T>>(
+        &mut self,
+        read: F,
+    ) -> Option<[T; N]>
+        requires { F.IsAlwaysCallable read }
+    {
+        let mut values = [T::default(); N];
+        let given = self.fill(&mut values, read)?;
+        (given == N).then_some(values)
+    }
+
+    // Fills the values from the words that come, as far as these go, and says how many came; none if one is no value.
+    fn fill<T: Drop, F: Fn(&str) -> Option<T>>(
+        &mut self,
+        values: &mut [T],
+        read: F,
+    ) -> Option<usize>
+        requires { F.IsAlwaysCallable read }
+    {
+        for (count, value) in values.iter_mut().enumerate() {
+            let Some(word) = self.word() else {
+                return Some(count);
+            };
+            *value = read(word)?;
+        }
+        Some(values.len())
+    }
 }
 
-// Fills the values with the numbers that come; none if they are too few.
-fn all_numbers<T: FromStr<Err = ParseIntError> + Drop>(
-    words: &mut SplitWhitespace<'_>,
-    values: &mut [T],
-) -> Option<()> {
-    let wanted = values.len();
-    if numbers(words, values)? == wanted {
-        Some(())
-    } else {
-        None
-    }
-}
-
-// Fills the values with the numbers that come, as far as they go, and says how many came; none at a word that is no number.
-fn numbers<T: FromStr<Err = ParseIntError> + Drop>(
-    words: &mut SplitWhitespace<'_>,
-    values: &mut [T],
-) -> Option<usize> {
-    let mut count = 0usize;
-    for value in values.iter_mut() {
-        let Some(word) = words.next() else {
-            break;
-        };
-        *value = word.parse::<T>().ok()?;
-        count += 1;
-    }
-    Some(count)
-}
-
-fn quote_bytes(words: &mut SplitWhitespace<'_>) -> Option<Request> {
-    let mut bytes = [0; 8];
-    for byte in bytes.iter_mut() {
-        *byte = hexadecimal_byte(words.next()?)?;
-    }
-    Some(Request::QuoteBytes { bytes })
+fn number<T: FromStr<Err = ParseIntError>>(word: &str) -> Option<T> {
+    word.parse().ok()
 }
 
 // The byte of two hexadecimal digits.

@@ -7,12 +7,11 @@ pub struct Hexadecimal<'a>(pub &'a [u8]);
 
 impl fmt::Display for Hexadecimal<'_> {
     fn fmt<W: fmt::Write>(&self, f: &mut fmt::Formatter<W>) -> fmt::Result {
-        for (i, byte) in self.0.iter().enumerate() {
-            if i > 0 {
-                write!(f, " ")?;
+        if let [first, others @ ..] = self.0 {
+            write!(f, "{first:02X}")?;
+            for byte in others {
+                write!(f, " {byte:02X}")?;
             }
-            let byte = *byte;
-            write!(f, "{byte:02X}")?;
         }
         Ok(())
     }
@@ -24,14 +23,11 @@ pub struct Places(pub u8);
 
 impl fmt::Display for Places {
     fn fmt<W: fmt::Write>(&self, f: &mut fmt::Formatter<W>) -> fmt::Result {
-        let mut more = false;
-        for place in 0..8u32 {
-            if (self.0 >> place) % 2 == 1 {
-                if more {
-                    write!(f, "+")?;
-                }
-                write!(f, "{place}")?;
-                more = true;
+        let mut places = (0..8u32).filter(|place| (self.0 >> *place) % 2 == 1);
+        if let Some(first) = places.next() {
+            write!(f, "{first}")?;
+            for place in places {
+                write!(f, "+{place}")?;
             }
         }
         Ok(())
