@@ -46,10 +46,7 @@ mod tests {
 
     // The number of the refusal, if it is one.
     fn refused<T: Drop>(made: Result<T, Refusal>) -> Option<u8> {
-        match made {
-            Ok(_) => None,
-            Err(refusal) => Some(refusal.number()),
-        }
+        made.err().map(Refusal::number)
     }
 
     #[test]
@@ -120,10 +117,9 @@ mod tests {
 
     // The cause's number and the offset of a fault, if it is one.
     fn fault<T: Drop>(answer: Result<T, FrameFault>) -> Option<(u8, usize)> {
-        match answer {
-            Ok(_) => None,
-            Err(fault) => Some((fault.cause.number(), fault.offset)),
-        }
+        answer
+            .err()
+            .map(|fault| (fault.cause.number(), fault.offset))
     }
 
     #[test]
@@ -158,32 +154,16 @@ mod tests {
         };
         place::<Quote>(&mut frames, 1, put)?;
         assert!(rt; check_frame::<Quote>(&frames[32..64]) == Ok((3, 17)));
-        match read::<Quote>(&frames[32..64]) {
-            Ok(
-                Message::Put {
-                    head,
-                    operation,
-                    tag,
-                    content,
-                },
-            ) => {
-                assert_eq!(rt; head, from_1_to_2(0));
-                assert_eq!(rt; operation, 4095);
-                assert_eq!(rt;
-                    tag,
-                    Tag {
-                        version: 9999,
-                        node: 16,
-                    }
-                );
-                assert!(rt; content == [0, 0, 0x01, 0xF4, 0, 0, 0x01, 0xFE].as_slice());
-                Ok(())
-            }
-            _ => {
-                assert!(rt; false);
-                Ok(())
-            },
-        }
+        assert_eq!(rt;
+            read::<Quote>(&frames[32..64]),
+            Ok(Message::Put {
+                head: from_1_to_2(0),
+                operation: 4095,
+                tag,
+                content: &[0, 0, 0x01, 0xF4, 0, 0, 0x01, 0xFE],
+            },)
+        );
+        Ok(())
     }
 
     #[test]
@@ -204,34 +184,17 @@ mod tests {
         };
         place::<Curve>(&mut frames, 0, update)?;
         assert!(rt; check_frame::<Curve>(&frames) == Ok((7, 31)));
-        match read::<Curve>(&frames) {
-            Ok(
-                Message::Update {
-                    head,
-                    count,
-                    members,
-                    tag,
-                    content,
-                },
-            ) => {
-                assert_eq!(rt; head, from_1_to_2(1));
-                assert_eq!(rt; count, 3);
-                assert!(rt; members == [2, 3, 4, 0, 0, 0, 0].as_slice());
-                assert_eq!(rt;
-                    tag,
-                    Tag {
-                        version: 0,
-                        node: 0,
-                    }
-                );
-                assert!(rt; content == bytes.as_slice());
-                Ok(())
-            }
-            _ => {
-                assert!(rt; false);
-                Ok(())
-            },
-        }
+        assert_eq!(rt;
+            read::<Curve>(&frames),
+            Ok(Message::Update {
+                head: from_1_to_2(1),
+                count: 3,
+                members: &[2, 3, 4, 0, 0, 0, 0],
+                tag,
+                content: &bytes,
+            },)
+        );
+        Ok(())
     }
 
     #[test]

@@ -21,7 +21,7 @@ pub struct Tag {
 }
 
 /// What a frame says: numbers by value, members and content borrowed, as from the slot that they stand in.
-#[derive(Clone, Copy)]
+#[derive(Clone, Copy, Debug, PartialEq, Eq)]
 pub enum Message<'a> {
     /// asks a member whether the configuration still stands
     Get {

@@ -1,7 +1,7 @@
 //! How frames are shown: the bytes of each field behind its name.
 use crate::text::Hexadecimal;
 use content::Content;
-use frame::{FrameFault, Head, Message, SLOT, Tag};
+use frame::{FrameFault, FrameKind, Head, Message, SLOT, Tag};
 use quote::Quote;
 use reader::{check, read};
 use refusal::Refusal;
@@ -55,10 +55,9 @@ fn put_to_each(
 
 /// A frame with a quote, field by field; or its bytes and its fault.
 pub(crate) fn show_frame(rt: &HostRuntime, slot: &[u8]) -> io::Result<()> {
-    match check::<Quote>(slot) {
+    match frame_in(slot) {
         Ok((kind, length)) => {
-            let name = name_of(read::<Quote>(slot));
-            print!(rt; "    {name}, {length} bytes")?;
+            print!(rt; "    {kind}, {length} bytes")?;
             show_fields(rt, slot, kind, length)
         }
         Err(fault) => {
@@ -68,21 +67,15 @@ pub(crate) fn show_frame(rt: &HostRuntime, slot: &[u8]) -> io::Result<()> {
     }
 }
 
-fn name_of(message: Result<Message<'_>, FrameFault>) -> &'static str {
-    match message {
-        Ok(Message::Get { .. }) => "get",
-        Ok(Message::GetAck { .. }) => "get-ack",
-        Ok(Message::Put { .. }) => "put",
-        Ok(Message::PutAck { .. }) => "put-ack",
-        Ok(Message::Freeze { .. }) => "freeze",
-        Ok(Message::Held { .. }) => "held",
-        Ok(Message::Update { .. }) => "update",
-        Err(_) => "no frame",
-    }
+// The kind of the frame in a slot, and how many bytes it takes.
+fn frame_in(slot: &[u8]) -> Result<(FrameKind, usize), FrameFault> {
+    let (_, length) = check::<Quote>(slot)?;
+    let message = read::<Quote>(slot)?;
+    Ok((message.kind(), length))
 }
 
 // Each field on a line of its own.
-fn show_fields(rt: &HostRuntime, slot: &[u8], kind: u8, length: usize) -> io::Result<()> {
+fn show_fields(rt: &HostRuntime, slot: &[u8], kind: FrameKind, length: usize) -> io::Result<()> {
     for (offset, byte) in slot.iter().enumerate() {
         match field_at(kind, offset, length) {
             Some(name) => print!(rt; "\n        {name} {byte:02X}")?,
@@ -93,18 +86,18 @@ fn show_fields(rt: &HostRuntime, slot: &[u8], kind: u8, length: usize) -> io::Re
 }
 
 // The name of the field that begins at a byte, if one does.
-fn field_at(kind: u8, offset: usize, length: usize) -> Option<&'static str> {
+fn field_at(kind: FrameKind, offset: usize, length: usize) -> Option<&'static str> {
     match (kind, offset) {
         (_, 0) => Some("kind     "),
         (_, 1) => Some("receiver "),
         (_, 2) => Some("sender   "),
         (_, 3) => Some("number   "),
-        (7, 4) => Some("count    "),
-        (7, 5) => Some("members  "),
+        (FrameKind::Update, 4) => Some("count    "),
+        (FrameKind::Update, 5) => Some("members  "),
         (_, 4) => Some("operation"),
-        (3 | 6, 6) | (7, 12) => Some("version  "),
-        (3 | 6, 8) | (7, 14) => Some("node     "),
-        (3 | 6, 9) | (7, 15) => Some("content  "),
+        (FrameKind::Put | FrameKind::Held, 6) | (FrameKind::Update, 12) => Some("version  "),
+        (FrameKind::Put | FrameKind::Held, 8) | (FrameKind::Update, 14) => Some("node     "),
+        (FrameKind::Put | FrameKind::Held, 9) | (FrameKind::Update, 15) => Some("content  "),
         _ if offset == length => Some("rest     "),
         _ => None,
     }

@@ -1,6 +1,7 @@
-use Rattle.std.proofs.Common.{◌∷◌, length, refl, arith}
+use Rattle.std.proofs.Common.{◌∷◌, length, refl, ap, arith}
 use native.Mathlib.Decide.{dec_le, dec_lt}
 use Rattle.std.proofs.lemmas.Bool.{cond-true, cond-false, eq-eqb, ne_eqb}
+use Rattle.frame.specs.Check.{numbered}
 use Rattle.cases.specs.FrameExamples.{FrameExamples}
 use Rattle.cases.proofs.frame_examples_stand.Goals as goal
 
@@ -13,9 +14,9 @@ examples = record {
   put_checked = refl;
   update_written = refl;
   update_checked = refl;
-  other_length = λ slot other. cond-false _ _ _ (ne_eqb (length slot) 32 other);
-  kind_eight = λ rest long. cond-true _ _ _ (eq-eqb (length (8 ∷ rest)) 32 (omega arith));
-  empty_slot = λ rest long. cond-true _ _ _ (eq-eqb (length (0 ∷ rest)) 32 (omega arith));
+  other_length = λ slot other. ap numbered (cond-false _ _ _ (ne_eqb (length slot) 32 other));
+  kind_eight = λ rest long. ap numbered (cond-true _ _ _ (eq-eqb (length (8 ∷ rest)) 32 (omega arith)));
+  empty_slot = λ rest long. ap numbered (cond-true _ _ _ (eq-eqb (length (0 ∷ rest)) 32 (omega arith)));
   put_receiver = refl;
   put_sender = refl;
   put_number = refl;
