@@ -1,5 +1,5 @@
 -- The frame table, a list of bytes: slot k is the 32 bytes from byte 32 k on.
-use Rattle.std.specs.Prelude.{ℕ, ◌+◌, ◌*◌, ◌/◌, cond, List, ◌++◌, length, take, drop, Ok, Err, Result, nat_lt}
+use Rattle.std.specs.Prelude.{ℕ, ◌+◌, ◌*◌, ◌/◌, List, ◌++◌, length, take, drop, Ok, Err, Result, nat_lt, if◌then◌else◌}
 use Rattle.refusal.specs.declared.Refusal.{Refusal}
 use Rattle.refusal.specs.declared.Refusal.TheVariants.{NoSlot, Unlawful}
 use Rattle.frame.specs.Bytes.{bytes_of, fits}
@@ -21,6 +21,6 @@ replaced table slot bytes = take (slot * slot_size) table ++ (bytes ++ drop (slo
 -- What placing a message answers, and the table that it leaves.
 abbrev pub placed : ℕ → List ℕ → ℕ → Said → Result (Unit {0}) Refusal × List ℕ
 placed width table slot message =
-    cond (nat_lt slot (slots table))
-    (cond (fits width message) (Ok tt, replaced table slot (bytes_of message)) (Err Unlawful, table))
-    (Err NoSlot, table)
+    if nat_lt slot (slots table)
+    then if fits width message then (Ok tt, replaced table slot (bytes_of message)) else (Err Unlawful, table)
+    else (Err NoSlot, table)
