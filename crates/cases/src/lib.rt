@@ -111,10 +111,6 @@ mod tests {
         }
     }
 
-    fn get<'a>(head: Head, operation: u16) -> Message<'a> {
-        Message::Get { head, operation }
-    }
-
     // The cause's number and the offset of a fault, if it is one.
     fn fault<T: Drop>(answer: Result<T, FrameFault>) -> Option<(u8, usize)> {
         answer
@@ -125,16 +121,17 @@ mod tests {
     #[test]
     fn get_in_its_slot_alone(rt: HostRuntime) -> Result<(), Fail> {
         let mut frames = [0xFFu8; 96];
-        place::<Quote>(&mut frames, 1, get(from_1_to_2(0), 1))?;
+        let get = Message::Get {
+            head: from_1_to_2(0),
+            operation: 1,
+        };
+        place::<Quote>(&mut frames, 1, get)?;
         assert_eq!(rt; frames[31], 0xFF);
         assert!(rt; frames[32..38] == [1, 2, 1, 0, 0, 1]);
         assert!(rt; frames[38..64] == [0; 26]);
         assert_eq!(rt; frames[64], 0xFF);
         assert_eq!(rt; fault(check_frame::<Quote>(&frames[32..64])), None);
-        assert_eq!(rt;
-            refused(place::<Quote>(&mut frames, 3, get(from_1_to_2(0), 1))),
-            Some(3)
-        );
+        assert_eq!(rt; refused(place::<Quote>(&mut frames, 3, get)), Some(3));
         Ok(())
     }
 
