@@ -1,25 +1,44 @@
 -- The weight of a set, place by place.
-use Rattle.std.specs.Prelude.{◌≡◌, ℕ, zero, suc, ◌+◌, ◌/◌, ◌<◌, ◌≤◌, true, cond, ◌&&◌, List, [], ◌∷◌, length, drop, nat_le, slice_index, refl}
-use Rattle.std.proofs.Common.{arith}
-use Rattle.std.proofs.lemmas.List.{at_drop_more}
-use Rattle.std.proofs.lemmas.Bool.{and_parts}
+use Rattle.std.specs.Prelude.{◌≡◌, ℕ, suc, ◌+◌, ◌*◌, ◌/◌, ◌^◌, ◌≤◌, true, List, [], ◌∷◌, length, nat_le, slice_index, refl, sum_by, filter}
+use Rattle.std.specs.List.{enumerate_from}
+use Rattle.std.proofs.Common.{ap, ◌∙◌, arith}
+use Rattle.std.proofs.lemmas.List.{get_or_past}
+use Rattle.std.proofs.lemmas.List.Sums.{AllPass-from_list_all, sum_by-cons}
+use Rattle.std.proofs.lemmas.Nat.{shr-shr}
 use Rattle.std.proofs.lemmas.Bool.Decides.{nat_tests}
 use Rattle.quorum.specs.Limits.{heaviest}
 use Rattle.quorum.specs.Sets.{member}
 use Rattle.quorum.specs.Rules.{weight, none_too_heavy}
 
--- what the weights from place i on add, one place taken off
-pub weight_more : (ws : List ℕ) (i rest : ℕ) → i < length ws → weight (drop i ws) rest ≡ cond (member 0 rest) (slice_index ws i) 0 + weight (drop (i + 1) ws) (rest / 2)
-weight_more ws i rest h = at_drop_more (λ (l : List ℕ). weight l rest) ws i 0 h
+-- the weights whose places are in the set, summed
+abbrev pub weight_of_members : List ℕ → ℕ → ℕ
+weight_of_members ws set = sum_by (λ p. p.1) (filter (λ p. member p.0 set) (enumerate_from 0 ws))
+
+-- place n is the first: its weight counts if bit n of the set is 1
+from_place : (n : ℕ) (ws : List ℕ) (set : ℕ) → sum_by (λ p. p.1) (filter (λ p. member p.0 set) (enumerate_from n ws)) ≡ weight ws (set / 2 ^ n)
+from_place n [] set = refl
+from_place n (w ∷ ws) set =
+    let rest = from_place (n + 1) ws set in
+    let half = shr-shr set n 1 in
+    let one_more = sum_by-cons (λ (p : ℕ × ℕ). p.1) (n, w) (filter (λ (p : ℕ × ℕ). member p.0 set) (enumerate_from (n + 1) ws)) in
+    grind (arith, nat_tests)
+
+pub weight_of_members_is : (ws : List ℕ) (set : ℕ) → weight_of_members ws set ≡ weight ws set
+weight_of_members_is ws set = from_place 0 ws set ∙ ap (weight ws) (omega arith)
 
 pub weight_nobody : (ws : List ℕ) → weight ws 0 ≡ 0
 weight_nobody [] = refl
 weight_nobody (w ∷ ws) = omega (arith, weight_nobody ws)
 
-pub light_more : (ws : List ℕ) (i : ℕ) → i < length ws → none_too_heavy (drop i ws) ≡ (nat_le (slice_index ws i) heaviest && none_too_heavy (drop (i + 1) ws))
-light_more ws i h = at_drop_more none_too_heavy ws i 0 h
+-- where no place weighs more than the heaviest, a set weighs at most that for each place
+pub weight_most : (ws : List ℕ) (set : ℕ) → ((place : ℕ) → slice_index ws place ≤ heaviest) → weight ws set ≤ heaviest * length ws
+weight_most [] set light = omega arith
+weight_most (w ∷ ws) set light =
+    let first = light 0 in
+    let rest = weight_most ws (set / 2) (λ place. light (suc place)) in
+    grind (arith, nat_tests)
 
 pub light_at : (ws : List ℕ) → none_too_heavy ws ≡ true → (place : ℕ) → slice_index ws place ≤ heaviest
-light_at [] h place = omega arith
-light_at (w ∷ ws) h zero = let p = and_parts (nat_le w heaviest) (none_too_heavy ws) h in grind (arith, nat_tests)
-light_at (w ∷ ws) h (suc place) = light_at ws (and_parts (nat_le w heaviest) (none_too_heavy ws) h).1 place
+light_at ws h place =
+    let inside = AllPass-from_list_all (λ w. nat_le w heaviest) ws h place 0 in
+    grind (arith, nat_tests, get_or_past)

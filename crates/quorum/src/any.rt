@@ -9,20 +9,12 @@ use crate::{LARGEST_GROUP, QuorumRule};
 pub fn everyone_wins<Q: QuorumRule>(rule: &Q, size: u8) -> bool
     ensures { result ≡ is_size size }
 {
-    let places = if usize::from(size) <= LARGEST_GROUP {
-        everyone(size)
-    } else {
-        u8::MAX
-    };
-    rule.wins(size, places)
+    usize::from(size) <= LARGEST_GROUP && rule.wins(size, everyone(size))
 }
 
 /// Whether two sets win that share no place: under no rule they do.
 pub fn both_win_apart<Q: QuorumRule>(rule: &Q, size: u8, one: u8, other: u8) -> bool
     ensures { result ≡ false }
 {
-    if one & other != 0 || !rule.wins(size, one) {
-        return false;
-    }
-    rule.wins(size, other)
+    one & other == 0 && rule.wins(size, one) && rule.wins(size, other)
 }

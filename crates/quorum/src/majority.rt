@@ -20,9 +20,6 @@ impl QuorumRule for Majority {
     ghost everyone_wins = { λ _. everyone_is_majority };
 
     fn wins(&self, size: u8, set: u8) -> bool {
-        if !in_bounds(size, set) {
-            return false;
-        }
-        2 * set.count_ones() > u32::from(size)
+        in_bounds(size, set) && 2 * set.count_ones() > u32::from(size)
     }
 }

@@ -1,7 +1,7 @@
 //! Sets of places.
-ghost use Rattle.std.specs.Prelude.{◌≡◌, ◌≤◌};
+ghost use Rattle.std.specs.Prelude.{◌≡◌, ◌<◌, ◌≤◌};
 ghost use Rattle.quorum.specs.Limits.{largest_group};
-ghost use Rattle.quorum.specs.Sets.{in_bounds, everyone as all_places};
+ghost use Rattle.quorum.specs.Sets.{in_bounds, everyone as all_places, member};
 
 use crate::LARGEST_GROUP;
 
@@ -9,10 +9,7 @@ use crate::LARGEST_GROUP;
 pub(crate) fn in_bounds(size: u8, set: u8) -> bool
     ensures { result ≡ in_bounds size set }
 {
-    if size < 1 || usize::from(size) > LARGEST_GROUP {
-        return false;
-    }
-    set < 1 << size
+    (1..=LARGEST_GROUP).contains(&usize::from(size)) && set < 1 << size
 }
 
 // The set of all places below a size.
@@ -21,4 +18,12 @@ pub(crate) fn everyone(size: u8) -> u8
     ensures { result ≡ all_places size }
 {
     (1 << size) - 1
+}
+
+// Whether the place is in the set.
+pub(crate) fn member(place: usize, set: u8) -> bool
+    requires { place < largest_group }
+    ensures { result ≡ member place set }
+{
+    set >> place & 1 == 1
 }
