@@ -1,5 +1,5 @@
 -- The quorum argument, once for all weights: two sets that share no place weigh together at most as much as all places.
-use Rattle.std.specs.Prelude.{◌≡◌, ℕ, zero, suc, ◌+◌, ◌*◌, ◌/◌, ◌^◌, ◌<◌, ◌≤◌, true, ◌⊎◌, List, [], ◌∷◌, ◌≢◌, bit_and}
+use Rattle.std.specs.Prelude.{◌≡◌, ℕ, zero, suc, ◌+◌, ◌*◌, ◌/◌, ◌^◌, ◌<◌, ◌≤◌, Bool, true, false, ◌⊎◌, List, [], ◌∷◌, ◌≢◌, bit_and, if◌then◌else◌}
 use Rattle.std.proofs.Common.{◌∙◌, inr, arith}
 use Rattle.std.proofs.lemmas.Nat.Bits.{bit_at_and, bit_at-zero, bit_at-suc, bit_at_ones}
 use Rattle.std.proofs.lemmas.Bool.Decides.{nat_tests}
@@ -13,6 +13,11 @@ member_half place set = grind (arith, bit_at-suc set place)
 
 share_next : (n a b : ℕ) → Share n (a / 2) (b / 2) → Share (suc n) a b
 share_next n a b (place, below, in_a, in_b) = (suc place, omega arith, member_half place a ∙ in_a, member_half place b ∙ in_b)
+
+-- one place weighs w: where not both sets have it, they have it together at most once
+once : (p q : Bool) (w : ℕ) → ((p ≡ true) × (q ≡ true)) ⊎ ((if p then w else 0) + (if q then w else 0) ≤ w)
+once true q w = grind arith
+once false q w = grind arith
 
 pub first_of_everyone : (n : ℕ) → member 0 (everyone (suc n)) ≡ true
 first_of_everyone n = grind (arith, nat_tests, bit_at_ones (suc n) 0)
@@ -35,6 +40,9 @@ halves_share ws size a b a_below b_below a_heavy b_heavy =
     let meet = share_or_fit ws size a b a_below b_below in
     grind arith
 
+member_of_both : (place a b : ℕ) → member place a ≡ true → member place b ≡ true → bit_and a b ≢ 0
+member_of_both place a b in_a in_b none = grind (arith, nat_tests, bit_at_and a b place, bit_at-zero place)
+
 -- sets that share a place are not apart as bits
 pub sharing_overlap : (size a b : ℕ) → Share size a b → bit_and a b ≢ 0
-sharing_overlap size a b (place, _, in_a, in_b) none = grind (arith, nat_tests, bit_at_and a b place, bit_at-zero place)
+sharing_overlap size a b (place, _, in_a, in_b) = member_of_both place a b in_a in_b

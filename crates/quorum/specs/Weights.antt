@@ -1,8 +1,8 @@
 -- The weight of a set, place by place.
-use Rattle.std.specs.Prelude.{◌≡◌, ℕ, suc, ◌+◌, ◌*◌, ◌/◌, ◌^◌, ◌≤◌, true, List, [], ◌∷◌, length, nat_le, slice_index, refl, sum_by, filter}
+use Rattle.std.specs.Prelude.{◌≡◌, ℕ, suc, ◌+◌, ◌*◌, ◌/◌, ◌^◌, ◌<◌, ◌≤◌, true, ◌&&◌, List, [], ◌∷◌, length, drop, nat_le, slice_index, refl, sum_by, filter, if◌then◌else◌}
 use Rattle.std.specs.List.{enumerate_from}
 use Rattle.std.proofs.Common.{ap, ◌∙◌, arith}
-use Rattle.std.proofs.lemmas.List.{get_or_past}
+use Rattle.std.proofs.lemmas.List.{get_or_past, at_drop_more}
 use Rattle.std.proofs.lemmas.List.Sums.{AllPass-from_list_all, sum_by-cons}
 use Rattle.std.proofs.lemmas.Nat.{shr-shr}
 use Rattle.std.proofs.lemmas.Bool.Decides.{nat_tests}
@@ -23,6 +23,10 @@ from_place n (w ∷ ws) set =
     let one_more = sum_by-cons (λ (p : ℕ × ℕ). p.1) (n, w) (filter (λ (p : ℕ × ℕ). member p.0 set) (enumerate_from (n + 1) ws)) in
     grind (arith, nat_tests)
 
+-- what the weights from place i on add, one place taken off
+pub weight_more : (ws : List ℕ) (i rest : ℕ) → i < length ws → weight (drop i ws) rest ≡ (if member 0 rest then slice_index ws i else 0) + weight (drop (i + 1) ws) (rest / 2)
+weight_more ws i rest h = at_drop_more (λ (l : List ℕ). weight l rest) ws i 0 h
+
 pub weight_of_members_is : (ws : List ℕ) (set : ℕ) → weight_of_members ws set ≡ weight ws set
 weight_of_members_is ws set = from_place 0 ws set ∙ ap (weight ws) (omega arith)
 
@@ -37,6 +41,9 @@ weight_most (w ∷ ws) set light =
     let first = light 0 in
     let rest = weight_most ws (set / 2) (λ place. light (suc place)) in
     grind (arith, nat_tests)
+
+pub light_more : (ws : List ℕ) (i : ℕ) → i < length ws → none_too_heavy (drop i ws) ≡ (nat_le (slice_index ws i) heaviest && none_too_heavy (drop (i + 1) ws))
+light_more ws i h = at_drop_more none_too_heavy ws i 0 h
 
 pub light_at : (ws : List ℕ) → none_too_heavy ws ≡ true → (place : ℕ) → slice_index ws place ≤ heaviest
 light_at ws h place =
