@@ -9,6 +9,7 @@ mod any;
 mod majority;
 mod sets;
 mod weighted;
+mod weights;
 
 pub use any::{both_win_apart, everyone_wins};
 pub use majority::Majority;
