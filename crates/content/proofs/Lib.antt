@@ -1,3 +1,2 @@
 pub mod FourBytes
 pub mod Padded
-pub mod Reading

@@ -23,7 +23,7 @@ pub trait Content: Sized + Drop {
     fn width() -> usize
         ensures { result ≡ width };
 
-    /// The bytes of this value, then zeros up to 16: so contents of all kinds fit one place. The bytes alone are `&content.to_bytes()[0..C::width()]`.
+    /// The bytes of this value, then zeros up to 16: so contents of all kinds fit one place. The bytes alone are `&content.to_bytes()[..C::width()]`.
     fn to_bytes(&self) -> [u8; WIDEST]
         ensures { result ≡ padded (meaning self.now) };
 
@@ -55,7 +55,7 @@ pub fn read_back<C: Content>(content: &C) -> Option<C>
     ensures { result ≡ Some content.now }
 {
     let bytes = content.to_bytes();
-    C::from_bytes(&bytes[0..C::width()])
+    C::from_bytes(&bytes[..C::width()])
 }
 
 /// Reads bytes and writes again what they stand for: the same bytes, then zeros up to 16; none if they are not of this kind.

@@ -1,5 +1,5 @@
 -- A curve and its bytes: four rates in two's complement, four bytes each.
-use Rattle.std.specs.Prelude.{ℕ, ◌%◌, ◌^◌, cond, List, [], ◌∷◌, ◌++◌, length, ℤ, Some, None, codes, Option, ◌==◌}
+use Rattle.std.specs.Prelude.{ℕ, ◌%◌, ◌^◌, if◌then◌else◌, List, [], ◌∷◌, ◌++◌, length, ℤ, Some, None, codes, Option, ◌==◌}
 use Rattle.std.proofs.Common.{mod-lt, lit<, to_z, of_z}
 use Rattle.std.specs.Int.{w32}
 use mir.ValLaws.{to_z-Fits}
@@ -34,7 +34,7 @@ curve_at bs =
 
 -- any sixteen bytes are a curve, and no others are
 abbrev pub curve_read : List ℕ → Option Curve
-curve_read bs = cond (length bs == 16) (Some (curve_at bs)) None
+curve_read bs = if length bs == 16 then Some (curve_at bs) else None
 
 -- as it is printed: the four rates, a blank between two
 abbrev pub shown_curve : Curve → List ℕ

@@ -1,7 +1,6 @@
 //! How a curve is made, written and read.
 ghost use Rattle.std.specs.Prelude.{◌≡◌, ◌+◌, ◌≤◌, [], ◌∷◌, length, Some};
 ghost use Rattle.std.specs.Fmt.{signed_decimal};
-ghost use Rattle.content.specs.Bytes.{number_at};
 ghost use Rattle.curve.specs.Curve.{rate_of, rates, curve_bytes, curve_read, shown_curve};
 ghost use Rattle.curve.specs.CurveLaws.{curve_reads_written, curve_writes_read};
 ghost use Rattle.std.proofs.Common.{rules};
@@ -65,25 +64,24 @@ impl Content for Curve {
     }
 
     fn to_bytes(&self) -> [u8; WIDEST] {
-        let [a0, a1, a2, a3] = self.first.value.to_be_bytes();
-        let [b0, b1, b2, b3] = self.second.value.to_be_bytes();
-        let [c0, c1, c2, c3] = self.third.value.to_be_bytes();
-        let [d0, d1, d2, d3] = self.fourth.value.to_be_bytes();
-        [
-            a0, a1, a2, a3, b0, b1, b2, b3, c0, c1, c2, c3, d0, d1, d2, d3,
-        ]
+        let mut bytes = [0; WIDEST];
+        bytes[..4].copy_from_slice(&self.first.value.to_be_bytes());
+        bytes[4..8].copy_from_slice(&self.second.value.to_be_bytes());
+        bytes[8..12].copy_from_slice(&self.third.value.to_be_bytes());
+        bytes[12..].copy_from_slice(&self.fourth.value.to_be_bytes());
+        bytes
     }
 
     fn from_bytes(bytes: &[u8]) -> Option<Curve> {
-        if bytes.len() != 16 {
+        let ([first, second, third, fourth], []) = bytes.as_chunks::<4>() else {
             return None;
-        }
-        Some(Curve {
-            first: rate_at(bytes, 0),
-            second: rate_at(bytes, 4),
-            third: rate_at(bytes, 8),
-            fourth: rate_at(bytes, 12),
-        })
+        };
+        Some(Curve::new(
+            i32::from_be_bytes(*first),
+            i32::from_be_bytes(*second),
+            i32::from_be_bytes(*third),
+            i32::from_be_bytes(*fourth),
+        ))
     }
 }
 
@@ -91,14 +89,10 @@ impl fmt::Display for Curve {
     ghost output = { λ curve. Some (shown_curve curve) };
 
     fn fmt<W: fmt::Write>(&self, f: &mut fmt::Formatter<W>) -> fmt::Result {
-        write!(f, "{} {} {} {}", self.first, self.second, self.third, self.fourth)
+        write!(
+            f,
+            "{} {} {} {}",
+            self.first, self.second, self.third, self.fourth
+        )
     }
-}
-
-// The rate whose four bytes begin at a place.
-fn rate_at(bytes: &[u8], at: usize) -> Rate
-    requires { at + 4 ≤ length bytes.now }
-    ensures { result ≡ rate_of (number_at bytes.now at) }
-{
-    Rate::from(i32::from_be_bytes([bytes[at], bytes[at + 1], bytes[at + 2], bytes[at + 3]]))
 }

@@ -1,5 +1,5 @@
 -- A quote and its bytes: bid, then ask, four bytes each.
-use Rattle.std.specs.Prelude.{ℕ, ◌^◌, cond, List, ◌++◌, length, Some, None, codes, decimal, Option, ◌==◌}
+use Rattle.std.specs.Prelude.{ℕ, ◌^◌, if◌then◌else◌, List, ◌++◌, length, Some, None, codes, decimal, Option, ◌==◌}
 use Rattle.std.proofs.Math.Logic.{dite}
 use Rattle.std.proofs.Math.Decide.{dec_le, dec_lt}
 use Rattle.quote.specs.declared.quote.Quote.{Quote}
@@ -18,7 +18,7 @@ quote_bytes quote = four_bytes quote.bid ++ four_bytes quote.ask
 
 -- eight bytes are read as the quote of their bid and ask, if there is one; all other bytes are none of a quote
 abbrev pub quote_read : List ℕ → Option Quote
-quote_read bs = cond (length bs == 8) (quote_of (number_at bs 0) (number_at bs 4)) None
+quote_read bs = if length bs == 8 then quote_of (number_at bs 0) (number_at bs 4) else None
 
 -- as it is printed: bid, a blank, ask
 abbrev pub shown_quote : Quote → List ℕ

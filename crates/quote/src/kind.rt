@@ -47,17 +47,18 @@ impl Content for Quote {
     }
 
     fn to_bytes(&self) -> [u8; WIDEST] {
-        let [b0, b1, b2, b3] = self.bid.to_be_bytes();
-        let [a0, a1, a2, a3] = self.ask.to_be_bytes();
-        [b0, b1, b2, b3, a0, a1, a2, a3, 0, 0, 0, 0, 0, 0, 0, 0]
+        let mut bytes = [0; WIDEST];
+        bytes[..4].copy_from_slice(&self.bid.to_be_bytes());
+        bytes[4..8].copy_from_slice(&self.ask.to_be_bytes());
+        bytes
     }
 
     fn from_bytes(bytes: &[u8]) -> Option<Quote> {
-        let [b0, b1, b2, b3, a0, a1, a2, a3] = bytes else {
+        let ([bid, ask], []) = bytes.as_chunks::<4>() else {
             return None;
         };
-        let bid = u32::from_be_bytes([*b0, *b1, *b2, *b3]);
-        let ask = u32::from_be_bytes([*a0, *a1, *a2, *a3]);
+        let bid = u32::from_be_bytes(*bid);
+        let ask = u32::from_be_bytes(*ask);
         Quote::new(bid, ask).ok()
     }
 }
