@@ -1,22 +1,26 @@
 -- A curve and its bytes: four rates in two's complement, four bytes each.
-use Rattle.std.specs.Prelude.{ℕ, ◌%◌, ◌^◌, if◌then◌else◌, List, [], ◌∷◌, ◌++◌, length, ℤ, Some, None, codes, Option, ◌==◌}
-use Rattle.std.proofs.Common.{mod-lt, lit<, to_z, of_z}
-use Rattle.std.specs.Int.{w32}
-use mir.ValLaws.{to_z-Fits}
+use Rattle.std.specs.Prelude.{ℕ, ◌%◌, ◌^◌, ◌<◌, if◌then◌else◌, List, [], ◌∷◌, ◌++◌, length, ℤ, Some, None, codes, Option, ◌==◌}
+use Rattle.std.proofs.Common.{arith}
+use Rattle.std.specs.Int.{w32, cast_signed, cast_unsigned}
+use Rattle.std.specs.Int.Signed.{mag}
 use Rattle.std.specs.Fmt.{signed_decimal}
 use Rattle.curve.specs.declared.curve.Curve.{Curve}
 use Rattle.curve.specs.declared.curve.Rate.{Rate}
 use Rattle.content.specs.Bytes.{four_bytes, number_at}
 
--- In two's complement 32 bits n stand for n if n is below 2 ^ 31, else for n - 2 ^ 32: that is `to_z w32`, and `of_z w32` goes back.
+-- In two's complement 32 bits n stand for n if n is below 2 ^ 31, else for n - 2 ^ 32: that is `cast_signed w32`, and `cast_unsigned w32` goes back.
+
+-- what 32 bits stand for fits an i32
+pub rate_fits : (n : ℕ) → mag (cast_signed w32 (n % 2 ^ 32)) < 2 ^ 31
+rate_fits n = grind arith
 
 -- the rate that the low 32 bits of a number stand for
 abbrev pub rate_of : ℕ → Rate
-rate_of n = record { value = to_z w32 (n % 2 ^ 32); fits = (to_z-Fits w32 (n % 2 ^ 32) (record { fits = mod-lt n (lit< tt) })).sfits }
+rate_of n = record { value = cast_signed w32 (n % 2 ^ 32); fits = rate_fits n }
 
 -- a rate as four bytes
 abbrev pub rate_bytes : Rate → List ℕ
-rate_bytes rate = four_bytes (of_z w32 rate.value)
+rate_bytes rate = four_bytes (cast_unsigned w32 rate.value)
 
 -- the four numbers of a curve
 abbrev pub rates : Curve → List ℤ

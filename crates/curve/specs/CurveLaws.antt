@@ -1,10 +1,10 @@
 -- The two laws of a curve's bytes.
 use Rattle.std.specs.Prelude.{◌≡◌, ℕ, ◌+◌, ◌^◌, ◌<◌, ◌≤◌, List, length, Some}
-use Rattle.std.proofs.Common.{ap, arith, to_z, of_z}
+use Rattle.std.proofs.Common.{ap, arith}
 use mathlib.Core.HLevel.{is_prop→PathP}
 use Rattle.std.proofs.Math.Bridge.{le_prop}
 use Rattle.std.specs.Int.Signed.{mag}
-use Rattle.std.specs.Int.{w32}
+use Rattle.std.specs.Int.{w32, cast_signed, cast_unsigned}
 use Rattle.std.proofs.lemmas.Bool.Decides.{nat_tests}
 use Rattle.std.proofs.lemmas.Int.{ints, to_z-of_z, of_z-to_z}
 use Rattle.std.proofs.lemmas.List.{drop_all}
@@ -29,7 +29,7 @@ same_curve x y same =
     λ i. record { first = first i; second = second i; third = third i; fourth = fourth i }
 
 -- the number behind 32 bits, as the code has it and as the rate keeps it
-pub rate_value : (n : ℕ) → n < 2 ^ 32 → to_z w32 (of_z w32 (to_z w32 n)) ≡ (rate_of n).value
+pub rate_value : (n : ℕ) → n < 2 ^ 32 → cast_signed w32 (cast_unsigned w32 (cast_signed w32 n)) ≡ (rate_of n).value
 rate_value n fits = grind (arith, of_z-to_z)
 
 rate_back : (rate : Rate) → (rate_of (number_at (rate_bytes rate) 0)).value ≡ rate.value

@@ -1,7 +1,7 @@
 //! How a curve is made, written and read.
-ghost use Rattle.std.specs.Prelude.{◌≡◌, ◌+◌, ◌≤◌, [], ◌∷◌, length, Some};
+ghost use Rattle.std.specs.Prelude.{◌≡◌, [], ◌∷◌, Some};
 ghost use Rattle.std.specs.Fmt.{signed_decimal};
-ghost use Rattle.curve.specs.Curve.{rate_of, rates, curve_bytes, curve_read, shown_curve};
+ghost use Rattle.curve.specs.Curve.{rates, curve_bytes, curve_read, shown_curve};
 ghost use Rattle.curve.specs.CurveLaws.{curve_reads_written, curve_writes_read};
 ghost use Rattle.std.proofs.Common.{rules};
 
