@@ -1,6 +1,6 @@
 -- The two laws of a curve's bytes.
-use Rattle.std.specs.Prelude.{◌≡◌, ℕ, ◌+◌, ◌^◌, ◌<◌, ◌≤◌, List, length, Some}
-use Rattle.std.proofs.Common.{ap, arith}
+use Rattle.std.specs.Prelude.{◌≡◌, ℕ, ◌+◌, ◌%◌, ◌^◌, ◌<◌, ◌≤◌, List, length, Some, refl}
+use Rattle.std.proofs.Common.{arith}
 use mathlib.Core.HLevel.{is_prop→PathP}
 use Rattle.std.proofs.Math.Bridge.{le_prop}
 use Rattle.std.specs.Int.Signed.{mag}
@@ -28,18 +28,23 @@ same_curve x y same =
     let fourth = same_rate x.fourth y.fourth cc in
     λ i. record { first = first i; second = second i; third = third i; fourth = fourth i }
 
+low : (n : ℕ) → n < 2 ^ 32 → n % 2 ^ 32 ≡ n
+low n fits = omega arith
+
 -- the number behind 32 bits, as the code has it and as the rate keeps it
 pub rate_value : (n : ℕ) → n < 2 ^ 32 → cast_signed w32 (cast_unsigned w32 (cast_signed w32 n)) ≡ (rate_of n).value
 rate_value n fits = grind (arith, of_z-to_z)
 
-rate_back : (rate : Rate) → (rate_of (number_at (rate_bytes rate) 0)).value ≡ rate.value
-rate_back rate = grind (arith, ints, to_z-of_z, from_be_bytes-to_be_bytes_4)
+rate_back : (rate : Rate) (n : ℕ) → n ≡ number_at (rate_bytes rate) 0 → rate_of n ≡ rate
+rate_back rate n same = same_rate (rate_of n) rate (grind (arith, ints, to_z-of_z, from_be_bytes-to_be_bytes_4))
 
 rate_forth : (n : ℕ) → rate_bytes (rate_of n) ≡ four_bytes n
 rate_forth n = grind (arith, of_z-to_z)
 
 pub curve_reads_written : (curve : Curve) → curve_read (curve_bytes curve) ≡ Some curve
-curve_reads_written curve = ap Some (same_curve _ curve (simp rate_back))
+curve_reads_written curve =
+    let back = λ (rate : Rate). rate_back rate _ refl in
+    λ i. Some (record { first = back curve.first i; second = back curve.second i; third = back curve.third i; fourth = back curve.fourth i })
 
 sixteen : (bs : List ℕ) → AllBytes bs → length bs ≡ 16 → curve_bytes (curve_at bs) ≡ bs
 sixteen bs h long =

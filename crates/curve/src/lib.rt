@@ -2,6 +2,5 @@
 #![tactic(auto)]
 
 mod curve;
-mod kind;
 
 pub use curve::{Curve, Rate};

@@ -1,7 +1,6 @@
 //! A kind of content: quotes.
 #![tactic(auto)]
 
-mod kind;
 mod quote;
 
 pub use quote::Quote;

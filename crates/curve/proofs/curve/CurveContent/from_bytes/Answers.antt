@@ -4,7 +4,7 @@ use Rattle.content.proofs.FourBytes.{number_at_fits}
 use Rattle.content.proofs.Padded.{bytes_from_fits}
 use Rattle.curve.specs.Curve.{curve_at}
 use Rattle.curve.specs.CurveLaws.{same_curve, rate_value}
-use Rattle.curve.proofs.kind.CurveContent.from_bytes.Goals as goal
+use Rattle.curve.proofs.curve.CurveContent.from_bytes.Goals as goal
 
 pub returns : goal.returns
 returns c =
