@@ -90,16 +90,17 @@ fn show_group<Q: QuorumRule>(rt: &HostRuntime, rule: &Q, size: u8) -> io::Result
         return println!(rt; "    no group has this size");
     }
     print!(rt; "    wins ")?;
-    show_sets(rt, rule, size, true)?;
+    show_sets(rt, size, |set| rule.wins(size, set))?;
     print!(rt; "    loses")?;
-    show_sets(rt, rule, size, false)
+    show_sets(rt, size, |set| !rule.wins(size, set))
 }
 
-// The nonempty sets of places below the size that win, or those that lose, on a line.
-fn show_sets<Q: QuorumRule>(rt: &HostRuntime, rule: &Q, size: u8, winning: bool) -> io::Result<()>
-    requires { size ≤ largest_group }
+// The nonempty sets of places below the size that are asked for, on a line.
+fn show_sets<F: Fn(u8) -> bool>(rt: &HostRuntime, size: u8, asked: F) -> io::Result<()>
+    requires small { size ≤ largest_group }
+    requires callable { F.IsAlwaysCallable asked }
 {
-    for set in (1..1u8 << size).filter(|set| rule.wins(size, *set) == winning) {
+    for set in (1..1u8 << size).filter(|set| asked(*set)) {
         print!(rt; " {}", Places(set))?;
     }
     println!(rt; "")
