@@ -7,34 +7,9 @@ use Rattle.std.proofs.lemmas.List.Elements.{All-from_get_or as all_from_each}
 use Rattle.std.proofs.lemmas.List.Folds.{list_any_at, list_any_none}
 use Rattle.std.proofs.lemmas.Bool.Decides.{nat_tests}
 use Rattle.quorum.specs.Limits.{largest_group}
-use Rattle.frame.specs.declared.message.Tag.{Tag}
-use Rattle.frame.specs.Fields.{Test, byte_at, members_of, field, is_node, node_suits, among, member_passes, member_fields}
-use Rattle.frame.specs.Lawful.{Node, LawfulTag, LawfulMembers}
-use Rattle.frame.specs.Limits.{highest_version}
+use Rattle.frame.specs.Fields.{Test, byte_at, members_of, field, among, member_passes, member_fields}
+use Rattle.frame.specs.Lawful.{LawfulMembers}
 use Rattle.frame.proofs.Runs.{Pass}
-
--- within two bounds
-pub between_passes : (low high n : ℕ) → low ≤ n → n ≤ high → (leb low n && leb n high) ≡ true
-between_passes low high n above below = grind (arith, nat_tests)
-
-pub between_from_pass : (low high n : ℕ) → (leb low n && leb n high) ≡ true → (low ≤ n) × (n ≤ high)
-between_from_pass low high n pass = grind (arith, nat_tests)
-
-pub node_passes : (n : ℕ) → Node n → is_node n ≡ true
-node_passes n node = grind (arith, nat_tests)
-
-pub node_from_pass : (n : ℕ) → is_node n ≡ true → Node n
-node_from_pass n pass = grind (arith, nat_tests)
-
--- a lawful tag: its version, and its node
-pub version_bounded : (tag : Tag) → LawfulTag tag → tag.version ≤ highest_version
-version_bounded tag lawful = omega arith
-
-pub node_suits_version : (tag : Tag) → LawfulTag tag → node_suits tag.version tag.node ≡ true
-node_suits_version tag lawful = grind (arith, nat_tests)
-
-pub tag_from_pass : (tag : Tag) → leb tag.version highest_version ≡ true → node_suits tag.version tag.node ≡ true → LawfulTag tag
-tag_from_pass tag bounded suits = grind (arith, nat_tests)
 
 -- lawful members pass, one by one
 pub member_passes_lawful : (count : ℕ) (members : List ℕ) → LawfulMembers count members → (i : ℕ) → i < largest_group → member_passes members count i ≡ true
@@ -47,15 +22,18 @@ member_passes_lawful count members lawful i inside =
     grind (arith, nat_tests)
 
 -- and members that pass are lawful
-pub members_from_pass : (count : ℕ) (members : List ℕ) → ((i : ℕ) → i < largest_group → member_passes members count i ≡ true) → count ≤ largest_group → length members ≡ largest_group
-    → 1 ≤ count → LawfulMembers count members
-members_from_pass count members pass small seven some = record {
-  seven = seven;
-  counted = (some, small);
-  nodes = λ i first. grind (arith, nat_tests, pass i);
-  different = λ i j before first same. grind (arith, nat_tests, pass j, list_any_at (λ b. eqb b (get_or members j 0)) (take j members) i 0, get_or-take {A = ℕ}, length-take-le {A = ℕ});
-  then_zeros = λ i other inside. grind (arith, nat_tests, pass i);
-}
+pub members_from_pass : (count : ℕ) (members : List ℕ) → ((i : ℕ) → i < largest_group → member_passes members count i ≡ true) → (leb 1 count && leb count largest_group) ≡ true
+    → length members ≡ largest_group → LawfulMembers count members
+members_from_pass count members pass counts seven =
+    let counted : (1 ≤ count) × (count ≤ largest_group) = grind (arith, nat_tests) in
+    record {
+      seven = seven;
+      counted = counted;
+      nodes = λ i first. grind (arith, nat_tests, pass i);
+      different = λ i j before first same.
+          grind (arith, nat_tests, pass j, list_any_at (λ b. eqb b (get_or members j 0)) (take j members) i 0, get_or-take {A = ℕ}, length-take-le {A = ℕ});
+      then_zeros = λ i other inside. grind (arith, nat_tests, pass i);
+    }
 
 -- the run of the seven members passes exactly if each of them does
 module _ (slot : List ℕ) where

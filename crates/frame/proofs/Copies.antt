@@ -6,36 +6,28 @@ use Rattle.std.proofs.lemmas.Bool.Decides.{nat_tests}
 use Rattle.content.specs.Bytes.{Byte, AllBytes}
 use Rattle.frame.specs.declared.message.Tag.{Tag}
 use Rattle.frame.specs.Bytes.{tag_bytes}
-use Rattle.frame.specs.Fields.{Test, byte_at, word_at, all_zero, tag_fields, content_fields}
+use Rattle.frame.specs.Fields.{Test, word_at, all_zero, tag_fields, content_fields}
 use Rattle.frame.specs.Lawful.{LawfulTag, LawfulContent}
 use Rattle.frame.specs.Messages.{tag_at}
-use Rattle.frame.proofs.Bounds.{version_bounded, node_suits_version}
 use Rattle.frame.proofs.Laws.{Laws}
 use Rattle.frame.proofs.Places.{word_of_bytes, word_then_rest, zeros_are_zero, rest_is_zeros}
 use Rattle.frame.proofs.Runs.{PassAll}
 
-some_from_isSome : {X : Type 0} (o : Option X) → is_some o ≡ true → (x : X) × (o ≡ Some x)
-some_from_isSome o is = grind arith
-
 -- a tag, a content of this width and zeros that stand at a place of a slot
 module _ (width : ℕ) (slot : List ℕ) (i : ℕ) (tag : Tag) (content : List ℕ) (n : ℕ) (stands : drop i slot ≡ tag_bytes tag ++ (content ++ replicate n 0))
     (small : tag.version < 2 ^ 16) (size : length content ≡ width) where
-  version_back : word_at slot i ≡ tag.version
-  version_back =
-      let high = rw stands at (get_or-drop i slot 0 0) in
-      let low = rw stands at (get_or-drop i slot 1 0) in
-      let word = word_of_bytes tag.version small in
-      grind arith
-
-  node_back : byte_at slot (i + 2) ≡ tag.node
-  node_back = sym (rw stands at (get_or-drop i slot 2 0))
-
   behind_tag : drop (i + 3) slot ≡ content ++ replicate n 0
   behind_tag = sym (rw stands at (drop-drop 3 i slot))
 
   -- they are what is read there
   pub copy_back : (tag_at slot i ≡ tag) × (take width (drop (i + 3) slot) ≡ content)
-  copy_back = (λ k. record { version = version_back k; node = node_back k }, rw behind_tag (take_at content (replicate n 0) width size))
+  copy_back =
+      let high = rw stands at (get_or-drop i slot 0 0) in
+      let low = rw stands at (get_or-drop i slot 1 0) in
+      let node = rw stands at (get_or-drop i slot 2 0) in
+      let word = word_of_bytes tag.version small in
+      let version : word_at slot i ≡ tag.version = grind arith in
+      (λ k. record { version = version k; node = sym node k }, rw behind_tag (take_at content (replicate n 0) width size))
 
   -- and the rest behind them is 0
   rest_zero : all_zero (drop (i + 3 + width) slot) ≡ true
@@ -56,20 +48,19 @@ module _ {C : Type 0} (width : ℕ) (meaning : C → List ℕ) (reads : List ℕ
         → PassAll copy_at × (all_zero (drop (i + 3 + width) slot) ≡ true)
     copy_passes tag content n stands tag_lawful content_lawful =
         let size = content_size content content_lawful in
-        let bounded = version_bounded tag tag_lawful in
         let small : tag.version < 2 ^ 16 = omega arith in
-        let version = version_back width slot i tag content n stands small size in
-        let node = node_back width slot i tag content n stands small size in
-        let suits = node_suits_version tag tag_lawful in
+        let (tag_is, content_is) = copy_back width slot i tag content n stands small size in
+        let version = ap (λ (t : Tag). t.version) tag_is in
+        let node = ap (λ (t : Tag). t.node) tag_is in
         let known : is_some (reads (take width (drop (i + 3) slot))) ≡ true =
-        rw ((copy_back width slot i tag content n stands small size).1 ∙ sym content_lawful.1) (ap is_some (laws.reads_written content_lawful.0)) in
-        (((grind (arith, nat_tests), (cc, tt)), ((known, tt), tt)), rest_zero width slot i tag content n stands small size)
+        rw (content_is ∙ sym content_lawful.1) (ap is_some (laws.reads_written content_lawful.0)) in
+        (((grind (arith, nat_tests), (grind (arith, nat_tests), tt)), ((known, tt), tt)), rest_zero width slot i tag content n stands small size)
 
     -- a content that passes there is lawful
     pub content_read_lawful : AllBytes slot → PassAll copy_at → LawfulContent meaning (take width (drop (i + 3) slot))
     content_read_lawful bytes pass =
         let part = take width (drop (i + 3) slot) in
-        let (value, known) = some_from_isSome (reads part) pass.1.0.0 in
+        let (value, known) : (value : C) × (reads part ≡ Some value) = grind arith in
         (value, laws.writes_read part value (All-take Byte width (drop (i + 3) slot) (All-drop Byte (i + 3) slot bytes)) known)
 
 -- a copy stands wherever there is room for one and the n bytes behind it are 0

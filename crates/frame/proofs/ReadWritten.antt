@@ -1,21 +1,20 @@
 -- Whatever is read of a slot is lawful, and the slot holds what is written of it.
 use Rattle.std.proofs.Common.{◌≡◌, ℕ, ◌+◌, true, List, ◌++◌, length, take, drop, Ok, Option, Result, sym, ◌∙◌, arith}
 use Rattle.std.proofs.lemmas.List.{append_assoc, drop-drop, drop_more, length-append, length-drop, length-take-le, take-append-drop}
-use Rattle.std.proofs.lemmas.Bool.{leb-true}
 use Rattle.std.proofs.lemmas.Bool.Decides.{nat_tests}
 use Rattle.content.specs.Bytes.{AllBytes}
 use Rattle.quorum.specs.Limits.{largest_group}
 use Rattle.frame.specs.declared.fault.FrameFault.{FrameFault}
 use Rattle.frame.specs.declared.kind.FrameKind.{FrameKind}
-use Rattle.frame.specs.declared.kind.FrameKind.TheVariants.{Get, GetAck, Put, PutAck, Freeze, Held, Update}
-use Rattle.frame.specs.Bytes.{head_bytes, tag_bytes, plain_bytes, copy_bytes, update_bytes, taken, filled, bytes_of}
+use Rattle.frame.specs.declared.kind.FrameKind.TheVariants.{Put, Held, Update}
+use Rattle.frame.specs.Bytes.{head_bytes, tag_bytes, copy_bytes, update_bytes, taken, filled, bytes_of}
 use Rattle.frame.specs.Check.{plain_runs, copy_runs, update_runs}
 use Rattle.frame.specs.Fields.{byte_at, word_at, all_zero, members_of, route_fields}
 use Rattle.frame.specs.Kinds.{kind_number, kind_from}
 use Rattle.frame.specs.Lawful.{Lawful, LawfulRoute, LawfulStart, LawfulCopy, LawfulUpdate, LawfulAndWritten}
-use Rattle.frame.specs.Limits.{slot_size, highest_number, highest_operation}
+use Rattle.frame.specs.Limits.{slot_size}
 use Rattle.frame.specs.Messages.{Said, head_of, tag_at, told, reading}
-use Rattle.frame.proofs.Bounds.{node_from_pass, tag_from_pass, between_from_pass, members_from_pass, each_member_from_pass}
+use Rattle.frame.proofs.Bounds.{members_from_pass, each_member_from_pass}
 use Rattle.frame.proofs.Copies.{content_read_lawful, copy_stands}
 use Rattle.frame.proofs.Passing.{Holds, told_from_read}
 use Rattle.frame.proofs.Laws.{Laws}
@@ -31,19 +30,10 @@ module _ (slot : List ℕ) (bytes : AllBytes slot) (long : length slot ≡ slot_
       cc (drop_more slot 0 0 (omega arith), drop_more slot 1 0 (omega arith), drop_more slot 2 0 (omega arith), drop_more slot 3 0 (omega arith))
 
   route_lawful : Pass (route_fields slot) → LawfulRoute (head_of slot)
-  route_lawful (receiver, (sender, _)) = record { receiver = node_from_pass (byte_at slot 1) receiver; sender = node_from_pass (byte_at slot 2) sender }
+  route_lawful pass = grind (arith, nat_tests)
 
   start_lawful : PassAll (plain_runs slot) → LawfulStart (head_of slot) (word_at slot 4)
-  start_lawful (route, ((number, (operation, _)), _)) = record {
-    route = route_lawful route;
-    number_bounded = leb-true (byte_at slot 3) highest_number number;
-    operation_bounded = leb-true (word_at slot 4) highest_operation operation;
-  }
-
-  plain_told : (kind : FrameKind) → kind_from (byte_at slot 0) ≡ Ok kind → PassAll (plain_runs slot) → all_zero (drop 6 slot) ≡ true
-      → LawfulStart (head_of slot) (word_at slot 4) × (filled (plain_bytes kind (head_of slot) (word_at slot 4)) ≡ slot)
-  plain_told kind first pass rest =
-      (start_lawful pass, cc (head_stands kind first, word_then_rest slot 4 (omega arith) bytes, rest_is_zeros slot 6 26 (omega arith) rest))
+  start_lawful pass = grind (arith, nat_tests)
 
   -- what the kind of content promises
   module _ {C : Type 0} (width : ℕ) (meaning : C → List ℕ) (reads : List ℕ → Option C) (laws : Laws width meaning reads) where
@@ -55,7 +45,7 @@ module _ (slot : List ℕ) (bytes : AllBytes slot) (long : length slot ≡ slot_
         let size : length (take width (drop 9 slot)) ≡ width = length-take-le width (drop 9 slot) (simp length-drop (omega arith)) in (
           record {
             start = start_lawful (route, (operation, tt));
-            tag_lawful = tag_from_pass (tag_at slot 6) copy.0.0 copy.0.1.0;
+            tag_lawful = grind (arith, nat_tests);
             content_lawful = content_read_lawful width meaning reads laws slot 6 bytes copy;
           },
           rw (← (copy_stands width slot 6 (zeros_behind (taken (told width slot Put))) bytes (omega arith) rest), ← (word_then_rest slot 4 (omega arith) bytes)) (sym (head_stands kind first)),
@@ -69,13 +59,12 @@ module _ (slot : List ℕ) (bytes : AllBytes slot) (long : length slot ≡ slot_
         let content : List ℕ = take width (drop 15 slot) in
         let size : length content ≡ width = length-take-le width (drop 15 slot) (simp length-drop (omega arith)) in
         let seven : length (members_of slot) ≡ largest_group = length-take-le largest_group (drop 5 slot) (simp length-drop (omega arith)) in
-        let count = between_from_pass 1 largest_group (byte_at slot 4) group.1.0 in
         let takes : length (members_of slot ++ (tag_bytes (tag_at slot 12) ++ content)) ≡ 10 + width = simp length-append (omega arith) in (
           record {
             route = route_lawful route;
-            number_bounded = between_from_pass 1 highest_number (byte_at slot 3) group.0;
-            members_lawful = members_from_pass (byte_at slot 4) (members_of slot) (each_member_from_pass slot members) count.1 seven count.0;
-            tag_lawful = tag_from_pass (tag_at slot 12) copy.0.0 copy.0.1.0;
+            number_bounded = grind (arith, nat_tests);
+            members_lawful = members_from_pass (byte_at slot 4) (members_of slot) (each_member_from_pass slot members) group.1.0 seven;
+            tag_lawful = grind (arith, nat_tests);
             content_lawful = content_read_lawful width meaning reads laws slot 12 bytes copy;
           },
           rw (
@@ -88,13 +77,11 @@ module _ (slot : List ℕ) (bytes : AllBytes slot) (long : length slot ≡ slot_
         )
 
     told_fits : (kind : FrameKind) → Holds width reads slot kind → Lawful meaning (told width slot kind) × (bytes_of (told width slot kind) ≡ slot)
-    told_fits Get held = plain_told Get held.first held.pass held.rest
-    told_fits GetAck held = plain_told GetAck held.first held.pass held.rest
     told_fits Put held = copy_told Put held.first held.pass held.rest
-    told_fits PutAck held = plain_told PutAck held.first held.pass held.rest
-    told_fits Freeze held = plain_told Freeze held.first held.pass held.rest
     told_fits Held held = copy_told Held held.first held.pass held.rest
     told_fits Update held = update_told held.first held.pass held.rest
+    told_fits kind held =
+        (start_lawful held.pass, cc (head_stands kind held.first, word_then_rest slot 4 (omega arith) bytes, rest_is_zeros slot 6 26 (omega arith) held.rest))
 
 -- an answer that is what reading answers
 pub answer_was_written : {C : Type 0} (width : ℕ) (meaning : C → List ℕ) (reads : List ℕ → Option C) → Laws width meaning reads → (slot : List ℕ) (answer : Result Said FrameFault)
