@@ -37,7 +37,7 @@ members_from_pass count members pass counts seven =
 
 -- the run of the seven members passes exactly if each of them does
 module _ (slot : List ℕ) where
-  abbrev member : ℕ → Test
+  abbrev pub member : ℕ → Test
   member i = field (member_passes (members_of slot) (byte_at slot 4) i) (5 + i)
 
   pub members_pass_from_each : ((i : ℕ) → i < largest_group → member_passes (members_of slot) (byte_at slot 4) i ≡ true) → Pass (member_fields slot)
