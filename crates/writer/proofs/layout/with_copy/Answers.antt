@@ -5,6 +5,4 @@ use Rattle.writer.proofs.layout.with_copy.Goals as goal
 
 -- the copy is laid right behind the operation
 pub returns : goal.returns
-returns c =
-    let front = plain_bytes c.args.kind c.args.head c.args.operation in
-    c.lay_copy.ensures ∙ copy_behind _ front c.args.content.now c.args.tag 6 c.plain-slot.ensures refl
+returns c = c.lay_copy.ensures ∙ copy_behind _ (plain_bytes c.args.kind c.args.head c.args.operation) c.args.content.now c.args.tag 6 c.plain-slot.ensures refl
