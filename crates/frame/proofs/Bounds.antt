@@ -35,15 +35,12 @@ members_from_pass count members pass counts seven =
       then_zeros = λ i other inside. grind (arith, nat_tests, pass i);
     }
 
--- the run of the seven members passes exactly if each of them does
+-- of the run of the seven members each passes
 module _ (slot : List ℕ) where
   abbrev pub member : ℕ → Test
   member i = field (member_passes (members_of slot) (byte_at slot 4) i) (5 + i)
 
-  pub members_pass_from_each : ((i : ℕ) → i < largest_group → member_passes (members_of slot) (byte_at slot 4) i ≡ true) → Pass (member_fields slot)
-  members_pass_from_each each = search (arith, each)
-
-  pub each_member_from_pass : Pass (member_fields slot) → (i : ℕ) → i < largest_group → member_passes (members_of slot) (byte_at slot 4) i ≡ true
-  each_member_from_pass pass i inside =
+  pub member_from_pass : Pass (member_fields slot) → (i : ℕ) → i < largest_group → member_passes (members_of slot) (byte_at slot 4) i ≡ true
+  member_from_pass pass i inside =
       rw (get_or-map-range_with_len member 0 largest_group i i (member 0) inside (omega arith)) at
       (All-get_or (λ (test : Test). test.passes ≡ true) (member_fields slot) i (member 0) inside pass)

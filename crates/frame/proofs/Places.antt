@@ -1,11 +1,10 @@
 -- Words and zeros at places of a slot.
-use Rattle.std.proofs.Common.{◌≡◌, ℕ, ◌+◌, ◌*◌, ◌/◌, ◌%◌, ◌^◌, ◌<◌, true, eqb, List, ◌++◌, length, drop, replicate, refl, arith}
+use Rattle.std.proofs.Common.{◌≡◌, ℕ, ◌+◌, ◌*◌, ◌/◌, ◌%◌, ◌^◌, ◌<◌, true, eqb, List, ◌++◌, length, drop, replicate, arith}
 use Rattle.std.proofs.ByRecursion.{All-get_or}
 use Rattle.std.proofs.lemmas.Bool.Decides.{nat_tests}
 use Rattle.std.proofs.lemmas.Grind.{same_number_lists}
 use Rattle.std.proofs.lemmas.List.{drop_more, get_or-replicate, length-drop, length-replicate}
-use Rattle.std.proofs.lemmas.List.Elements.{All-replicate}
-use Rattle.std.proofs.lemmas.List.Sums.{AllPass-from_list_all, list_all-from_AllPass}
+use Rattle.std.proofs.lemmas.List.Sums.{AllPass-from_list_all}
 use Rattle.content.specs.Bytes.{Byte, AllBytes}
 use Rattle.frame.specs.Bytes.{two_bytes}
 use Rattle.frame.specs.Fields.{byte_at, word_at, all_zero}
@@ -23,9 +22,6 @@ word_then_rest slot k inside bytes =
     let high : word_at slot k / 256 % 256 ≡ byte_at slot k = omega (arith, All-get_or Byte slot k 0 (omega arith) bytes) in
     let low : word_at slot k % 256 ≡ byte_at slot (k + 1) = omega arith in
     grind arith
-
-pub zeros_are_zero : (n : ℕ) → all_zero (replicate n 0) ≡ true
-zeros_are_zero n = list_all-from_AllPass (λ b. eqb b 0) (replicate n 0) (All-replicate (λ b. eqb b 0 ≡ true) n 0 refl)
 
 -- the rest of a slot that passes is zeros
 pub rest_is_zeros : (slot : List ℕ) (k n : ℕ) → k + n ≡ length slot → all_zero (drop k slot) ≡ true → drop k slot ≡ replicate n 0

@@ -1,31 +1,29 @@
 -- Reading what was written of a lawful message gives that message.
-use Rattle.std.proofs.Common.{◌≡◌, ℕ, ◌≤◌, true, List, length, drop, Ok, Option, refl, ap, arith}
+use Rattle.std.proofs.Common.{◌≡◌, ℕ, ◌<◌, ◌≤◌, true, List, length, drop, Ok, Option, refl, ap, arith}
 use Rattle.std.proofs.lemmas.List.{length-append, length-replicate}
 use Rattle.std.proofs.lemmas.Bool.Decides.{nat_tests}
-use Rattle.frame.specs.Bytes.{taken, filled, bytes_of, kind_of, fits, WordsFit}
+use Rattle.quorum.specs.Limits.{largest_group}
+use Rattle.frame.specs.Bytes.{taken, bytes_of, kind_of, fits, WordsFit}
 use Rattle.frame.specs.Check.{kind_runs, kind_takes}
-use Rattle.frame.specs.Fields.{all_zero}
+use Rattle.frame.specs.Fields.{all_zero, members_of, member_passes, member_fields}
 use Rattle.frame.specs.Lawful.{Lawful, ReadsBack}
 use Rattle.frame.specs.Limits.{slot_size}
 use Rattle.frame.specs.Messages.{Said, put, held, update, reading}
-use Rattle.frame.proofs.Bounds.{member_passes_lawful, members_pass_from_each}
+use Rattle.frame.proofs.Bounds.{member_passes_lawful}
 use Rattle.frame.proofs.Copies.{content_size, copy_passes}
 use Rattle.frame.proofs.Laws.{Laws}
 use Rattle.frame.proofs.Passing.{Holds, found_from_holds}
 use Rattle.frame.proofs.Places.{word_of_bytes}
-use Rattle.frame.proofs.Runs.{PassAll}
+use Rattle.frame.proofs.Runs.{Pass, PassAll}
 use Rattle.frame.proofs.ToldBack.{first_byte, update_parts, told_back, nothing_else_is_read}
-
--- what was written takes 32 bytes
-filled_length : (bytes : List ℕ) → length bytes ≤ slot_size → length (filled bytes) ≡ slot_size
-filled_length bytes room = simp (length-append, length-replicate) (omega arith)
 
 module _ {C : Type 0} (width : ℕ) (meaning : C → List ℕ) (reads : List ℕ → Option C) (laws : Laws width meaning reads) where
   -- what was written fills the slot, so long as the parts have their lengths
   pub bytes_fill_a_slot : (message : Said) → fits width message ≡ true → length (bytes_of message) ≡ slot_size
   bytes_fill_a_slot message fitting =
       let bounded = laws.bounded in
-      filled_length (taken message) (grind (arith, nat_tests, length-append {A = ℕ}))
+      let room : length (taken message) ≤ slot_size = grind (arith, nat_tests, length-append {A = ℕ}) in
+      simp (length-append, length-replicate) (omega arith)
 
   -- a lawful message: its parts have their lengths, its numbers have 16 bits, and its bytes hold a frame of its kind
   lawful_fits : (message : Said) → Lawful meaning message → fits width message ≡ true
@@ -46,7 +44,8 @@ module _ {C : Type 0} (width : ℕ) (meaning : C → List ℕ) (reads : List ℕ
       let slot = bytes_of (update head count members tag content) in
       let group = lawful.members_lawful in
       let (members_is, behind) = update_parts head count members tag content group.seven in
-      let each = members_pass_from_each slot (λ i inside. rw members_is (member_passes_lawful count members group i inside)) in
+      let member : (i : ℕ) → i < largest_group → member_passes (members_of slot) count i ≡ true = λ i inside. rw members_is (member_passes_lawful count members group i inside) in
+      let each : Pass (member_fields slot) = search (arith, member) in
       let copy = copy_passes width meaning reads laws slot 12 tag content _ behind lawful.tag_lawful lawful.content_lawful in
       grind (arith, nat_tests)
   fields_pass message lawful = grind (arith, nat_tests, word_of_bytes)

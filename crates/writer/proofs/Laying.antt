@@ -1,12 +1,10 @@
--- What bytes that are laid into a slot, and a slot that is laid into the table, leave there.
-use Rattle.std.proofs.Common.{◌≡◌, ℕ, ◌+◌, ◌-◌, ◌*◌, List, ◌++◌, length, arith, length-append}
-use borrow.Rule.Slice.PartMut.{put_mid}
+-- What bytes that are laid into a slot leave there.
+use Rattle.std.proofs.Common.{◌≡◌, ℕ, ◌+◌, ◌-◌, List, ◌++◌, length, arith, length-append}
 use Rattle.std.proofs.lemmas.List.{append_assoc, drop_at, drop-drop, drop-replicate, take_at}
 use Rattle.frame.specs.declared.message.Tag.{Tag}
 use Rattle.frame.specs.Bytes.{tag_bytes, filled}
 use Rattle.frame.specs.Limits.{slot_size}
 use Rattle.writer.specs.Layout.{laid}
-use Rattle.writer.specs.Table.{replaced}
 
 -- bytes laid right behind what stands in a slot that is else 0
 pub laid_behind : (slot front bytes : List ℕ) (at : ℕ) → slot ≡ filled front → length front ≡ at → laid slot at bytes ≡ filled (front ++ bytes)
@@ -22,10 +20,3 @@ copy_behind slot front content tag at stands long =
     laid_behind (laid slot at (tag_bytes tag)) (front ++ tag_bytes tag) content (at + 3)
     (laid_behind slot front (tag_bytes tag) at stands long) (omega (arith, length-append front (tag_bytes tag)))
     )
-
--- a slot laid into the table
-pub slot_written : (table written bytes : List ℕ) (slot : ℕ) → written ≡ bytes
-    → put_mid (slot * slot_size) (slot * slot_size + slot_size - slot * slot_size) table written ≡ replaced table slot bytes
-slot_written table written bytes slot same =
-    let size : slot * slot_size + slot_size - slot * slot_size ≡ slot_size = omega arith in
-    rw (same, size, drop-drop slot_size (slot * slot_size) table)

@@ -1,7 +1,7 @@
 -- What was placed of a lawful message is read back.
-use Rattle.std.proofs.Common.{◌≡◌, ℕ, ◌+◌, ◌-◌, ◌*◌, ◌<◌, ◌≤◌, true, List, length, take, Ok, Option, Result, arith}
+use Rattle.std.proofs.Common.{◌≡◌, ℕ, ◌+◌, ◌-◌, ◌*◌, ◌<◌, true, List, take, Ok, Option, Result, arith}
 use borrow.Rule.Slice.PartMut.{put_mid}
-use Rattle.std.proofs.lemmas.List.{drop_at, take_at, length-take-le}
+use Rattle.std.proofs.lemmas.List.{drop_at, drop-drop, take_at, length-take-le}
 use Rattle.std.proofs.lemmas.Bool.{lt-ltb}
 use Rattle.std.proofs.lemmas.Bool.Decides.{nat_tests}
 use Rattle.refusal.specs.declared.Refusal.{Refusal}
@@ -11,7 +11,6 @@ use Rattle.frame.specs.Limits.{slot_size}
 use Rattle.frame.specs.Messages.{Said}
 use Rattle.frame.proofs.Laws.{Laws}
 use Rattle.frame.proofs.WrittenReads.{slot_reads_back, bytes_fill_a_slot}
-use Rattle.writer.proofs.Laying.{slot_written}
 use Rattle.writer.specs.Table.{slots, slot_of, replaced, placed}
 
 -- an answer, and the table after it
@@ -21,16 +20,16 @@ Outcome = Result (Unit {0}) Refusal × List ℕ
 -- a message that fits, written into a slot that there is
 pub placed_so : (width : ℕ) (table written : List ℕ) (slot : ℕ) (message : Said) → slot < slots table → fits width message ≡ true → written ≡ bytes_of message
     → ◌≡◌ {A = Outcome} (Ok tt, put_mid (slot * slot_size) (slot * slot_size + slot_size - slot * slot_size) table written) (placed width table slot message)
-placed_so width table written slot message below fitting same = rw (lt-ltb slot (slots table) below, fitting, slot_written table written (bytes_of message) slot same)
+placed_so width table written slot message below fitting same =
+    let size : slot * slot_size + slot_size - slot * slot_size ≡ slot_size = omega arith in
+    rw (lt-ltb slot (slots table) below, fitting, same, size, drop-drop slot_size (slot * slot_size) table)
 
--- a slot that was replaced holds what replaced it
-slot_replaced : (table bytes : List ℕ) (slot : ℕ) → slot * slot_size + slot_size ≤ length table → length bytes ≡ slot_size → slot_of (replaced table slot bytes) slot ≡ bytes
-slot_replaced table bytes slot inside long =
-    rw (drop_at (take (slot * slot_size) table) _ _ (length-take-le (slot * slot_size) table (omega arith)), take_at bytes _ slot_size long)
-
+-- so the slot is read back as that message
 pub placed_reads_back : {C : Type 0} (width : ℕ) (meaning : C → List ℕ) (reads : List ℕ → Option C) → Laws width meaning reads → (table after : List ℕ) (slot : ℕ) (message : Said)
     (r : Result (Unit {0}) Refusal) → ◌≡◌ {A = Outcome} (r, after) (placed width table slot message) → WordsFit message → r ≡ Ok tt → ReadsBack width meaning reads message (slot_of after slot)
 placed_reads_back width meaning reads laws table after slot message r is small taken =
     let (below, (fitting, left)) : (slot < slots table) × ((fits width message ≡ true) × (after ≡ replaced table slot (bytes_of message))) = grind (arith, nat_tests) in
+    let before = length-take-le (slot * slot_size) table (omega arith) in
+    let long = bytes_fill_a_slot width meaning reads laws message fitting in
     slot_reads_back width meaning reads laws message (slot_of after slot) fitting small
-    (rw left (slot_replaced table (bytes_of message) slot (omega arith) (bytes_fill_a_slot width meaning reads laws message fitting)))
+    (rw (left, drop_at (take (slot * slot_size) table) _ (slot * slot_size) before, take_at (bytes_of message) _ slot_size long))
