@@ -9,7 +9,7 @@ use Rattle.frame.specs.Fields.{byte_at, all_zero}
 use Rattle.frame.specs.Kinds.{kind_from}
 use Rattle.frame.specs.Limits.{slot_size}
 use Rattle.frame.specs.Messages.{Said, told, told_if, reading}
-use Rattle.frame.proofs.Runs.{PassAll, pass_from_runs, judged_from_runs}
+use Rattle.frame.proofs.Runs.{PassAll, runs_exactly}
 
 -- a slot's fields of a kind pass, and the rest behind them is 0
 pub record Holds {C : Type 0} (width : ℕ) (reads : List ℕ → Option C) (slot : List ℕ) (kind : FrameKind) : Type 0 where
@@ -26,7 +26,7 @@ module _ {C : Type 0} (width : ℕ) (reads : List ℕ → Option C) (slot : List
   told_of_kind : (kind : Result FrameKind FrameFault) (message : Said) → length slot ≡ slot_size → kind_from (byte_at slot 0) ≡ kind
       → told_if width slot (checked_as width reads slot kind) ≡ Ok message → Told message
   told_of_kind (Ok kind) message long first same =
-      let pass = pass_from_runs (kind_runs width reads slot kind) (grind arith) in
+      let pass = (runs_exactly (kind_runs width reads slot kind)).0 (grind arith) in
       (kind, (record { long = long; first = first; pass = pass; rest = grind arith }, grind arith))
   told_of_kind (Err fault) message long first same = cc
 
@@ -36,6 +36,7 @@ module _ {C : Type 0} (width : ℕ) (reads : List ℕ → Option C) (slot : List
       let long : length slot ≡ slot_size = grind (arith, nat_tests) in
       told_of_kind (kind_from (byte_at slot 0)) message long refl (rw (eq-eqb (length slot) slot_size long) at same)
 
+  -- and what the slot holds is found
   pub found_from_holds : (kind : FrameKind) → Holds width reads slot kind → frame_in width reads slot ≡ Ok (kind, kind_takes width kind)
   found_from_holds kind held =
-      rw (eq-eqb (length slot) slot_size held.long, held.first, judged_from_runs (kind_runs width reads slot kind) held.pass, held.rest)
+      rw (eq-eqb (length slot) slot_size held.long, held.first, (runs_exactly (kind_runs width reads slot kind)).1 held.pass, held.rest)

@@ -1,5 +1,5 @@
 -- Every field passes exactly if the judgement is the answer and no fault.
-use Rattle.std.proofs.Common.{◌≡◌, true, List, [], ◌∷◌, Ok, refl, arith}
+use Rattle.std.proofs.Common.{◌≡◌, ◌↔◌, true, List, [], ◌∷◌, Ok, refl, arith}
 use Rattle.std.specs.List.{AllByRecursion}
 use Rattle.frame.specs.Fields.{Test, judged, judged_runs}
 
@@ -10,18 +10,10 @@ Pass tests = AllByRecursion (λ (test : Test). test.passes ≡ true) tests
 abbrev pub PassAll : List (List Test) → Type 0
 PassAll runs = AllByRecursion Pass runs
 
-pub pass_from_judged : (tests : List Test) → judged {X = Unit {0}} tests tt ≡ Ok tt → Pass tests
-pass_from_judged [] same = tt
-pass_from_judged (test ∷ tests) same = grind (arith, pass_from_judged tests)
+pub judged_exactly : (tests : List Test) → (judged {X = Unit {0}} tests tt ≡ Ok tt) ↔ Pass tests
+judged_exactly [] = (λ _. tt, λ _. refl)
+judged_exactly (test ∷ tests) = grind (arith, judged_exactly tests)
 
-pub pass_from_runs : (runs : List (List Test)) → judged_runs {X = Unit {0}} runs tt ≡ Ok tt → PassAll runs
-pass_from_runs [] same = tt
-pass_from_runs (run ∷ runs) same = grind (arith, pass_from_judged run, pass_from_runs runs)
-
-pub judged_from_pass : (tests : List Test) → Pass tests → judged {X = Unit {0}} tests tt ≡ Ok tt
-judged_from_pass [] _ = refl
-judged_from_pass (test ∷ tests) pass = grind (arith, judged_from_pass tests)
-
-pub judged_from_runs : (runs : List (List Test)) → PassAll runs → judged_runs {X = Unit {0}} runs tt ≡ Ok tt
-judged_from_runs [] _ = refl
-judged_from_runs (run ∷ runs) pass = grind (arith, judged_from_pass run, judged_from_runs runs)
+pub runs_exactly : (runs : List (List Test)) → (judged_runs {X = Unit {0}} runs tt ≡ Ok tt) ↔ PassAll runs
+runs_exactly [] = (λ _. tt, λ _. refl)
+runs_exactly (run ∷ runs) = grind (arith, judged_exactly run, runs_exactly runs)

@@ -1,7 +1,8 @@
 -- What the bytes of a message tell, read as its kind, is that message, lawful or not.
 use Rattle.std.proofs.Common.{◌≡◌, ℕ, ◌-◌, true, List, ◌++◌, length, drop, replicate, Ok, Option, refl, arith}
 use Rattle.std.proofs.lemmas.List.{append_assoc, take_at, drop_at}
-use Rattle.std.proofs.lemmas.Bool.{and_parts, eqb-true}
+use Rattle.std.proofs.lemmas.Bool.{eqb-true}
+use Rattle.std.proofs.lemmas.Bool.Decides.{nat_tests}
 use Rattle.quorum.specs.Limits.{largest_group}
 use Rattle.frame.specs.declared.message.Head.{Head}
 use Rattle.frame.specs.declared.message.Tag.{Tag}
@@ -24,6 +25,7 @@ pub update_parts : (head : Head) (count : ℕ) (members : List ℕ) (tag : Tag) 
 update_parts head count members tag content seven =
     (rw (append_assoc members _ _, take_at members _ largest_group seven), rw (append_assoc members _ _, drop_at members _ largest_group seven))
 
+-- told as its kind, the bytes of a message give the message
 pub told_back : (width : ℕ) (message : Said) → fits width message ≡ true → WordsFit message → told width (bytes_of message) (kind_of message) ≡ message
 told_back width (put head operation tag content) fitting small =
     let back = copy_back width (bytes_of (put head operation tag content)) 6 tag content _ refl small.1 (eqb-true (length content) width fitting) in
@@ -32,14 +34,13 @@ told_back width (held head operation tag content) fitting small =
     let back = copy_back width (bytes_of (held head operation tag content)) 6 tag content _ refl small.1 (eqb-true (length content) width fitting) in
     cc (word_of_bytes operation small.0)
 told_back width (update head count members tag content) fitting small =
-    let (sevens, sizes) = and_parts _ _ fitting in
-    let seven = eqb-true (length members) largest_group sevens in
-    let size = eqb-true (length content) width sizes in
+    let (seven, size) : (length members ≡ largest_group) × (length content ≡ width) = grind (arith, nat_tests) in
     let (members_is, behind) = update_parts head count members tag content seven in
     let back = copy_back width (bytes_of (update head count members tag content)) 12 tag content _ behind small size in
     cc
 told_back width message fitting small = grind (arith, word_of_bytes)
 
+-- their first byte gives the kind
 pub first_byte : (message : Said) → kind_from (byte_at (bytes_of message) 0) ≡ Ok (kind_of message)
 first_byte message = grind arith
 

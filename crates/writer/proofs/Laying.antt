@@ -16,7 +16,6 @@ laid_behind slot front bytes at stands long =
 pub copy_behind : (slot front content : List ℕ) (tag : Tag) (at : ℕ) → slot ≡ filled front → length front ≡ at
     → laid (laid slot at (tag_bytes tag)) (at + 3) content ≡ filled (front ++ (tag_bytes tag ++ content))
 copy_behind slot front content tag at stands long =
-    rw (← (append_assoc front (tag_bytes tag) content)) (
-    laid_behind (laid slot at (tag_bytes tag)) (front ++ tag_bytes tag) content (at + 3)
-    (laid_behind slot front (tag_bytes tag) at stands long) (omega (arith, length-append front (tag_bytes tag)))
-    )
+    let tagged = laid_behind slot front (tag_bytes tag) at stands long in
+    let size = length-append front (tag_bytes tag) in
+    rw (← (append_assoc front (tag_bytes tag) content)) (laid_behind _ (front ++ tag_bytes tag) content (at + 3) tagged (omega arith))
