@@ -8,7 +8,7 @@ use Rattle.std.proofs.lemmas.List.Sums.{list_all-from_AllPass}
 use Rattle.content.specs.Bytes.{Byte, AllBytes}
 use Rattle.frame.specs.declared.message.Tag.{Tag}
 use Rattle.frame.specs.Bytes.{tag_bytes}
-use Rattle.frame.specs.Fields.{word_at, all_zero, tag_fields, content_fields}
+use Rattle.frame.specs.Fields.{byte_at, word_at, all_zero, tag_fields, content_fields}
 use Rattle.frame.specs.Lawful.{LawfulTag, LawfulContent}
 use Rattle.frame.specs.Messages.{tag_at}
 use Rattle.frame.proofs.Laws.{Laws}
@@ -19,14 +19,11 @@ use Rattle.frame.proofs.Runs.{PassAll}
 pub copy_back : (width : ℕ) (slot : List ℕ) (i : ℕ) (tag : Tag) (content : List ℕ) (n : ℕ) → drop i slot ≡ tag_bytes tag ++ (content ++ replicate n 0) → tag.version < 2 ^ 16
     → length content ≡ width → (tag_at slot i ≡ tag) × ((take width (drop (i + 3) slot) ≡ content) × (all_zero (drop (i + 3 + width) slot) ≡ true))
 copy_back width slot i tag content n stands small size =
-    let high = rw stands at (get_or-drop i slot 0 0) in
-    let low = rw stands at (get_or-drop i slot 1 0) in
-    let node = rw stands at (get_or-drop i slot 2 0) in
-    let word = word_of_bytes tag.version small in
-    let version : word_at slot i ≡ tag.version = grind arith in
+    let version : word_at slot i ≡ tag.version = grind (arith, word_of_bytes, rw stands at (get_or-drop i slot 0 0), rw stands at (get_or-drop i slot 1 0)) in
+    let node : byte_at slot (i + 2) ≡ tag.node = sym (rw stands at (get_or-drop i slot 2 0)) in
     let behind : drop (i + 3) slot ≡ content ++ replicate n 0 = sym (rw stands at (drop-drop 3 i slot)) in
     let zeros = list_all-from_AllPass (λ b. eqb b 0) (replicate n 0) (All-replicate (λ b. eqb b 0 ≡ true) n 0 refl) in (
-      λ k. record { version = version k; node = sym node k },
+      λ k. record { version = version k; node = node k },
       (rw behind (take_at content _ width size), rw (← (drop-drop width (i + 3) slot), behind, drop_at content _ width size) zeros),
     )
 

@@ -1,6 +1,6 @@
 pub mod Runs
 pub mod Places
-pub mod Bounds
+pub mod Members
 pub mod Laws
 pub mod Copies
 pub mod Passing

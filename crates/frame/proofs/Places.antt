@@ -7,7 +7,7 @@ use Rattle.std.proofs.lemmas.List.{drop_more, get_or-replicate, length-drop, len
 use Rattle.std.proofs.lemmas.List.Sums.{AllPass-from_list_all}
 use Rattle.content.specs.Bytes.{Byte, AllBytes}
 use Rattle.frame.specs.Bytes.{two_bytes}
-use Rattle.frame.specs.Fields.{byte_at, word_at, all_zero}
+use Rattle.frame.specs.Fields.{word_at, all_zero}
 
 -- a number below 2^16 is that of its two bytes
 pub word_of_bytes : (n : ℕ) → n < 2 ^ 16 → n / 256 % 256 * 256 + n % 256 ≡ n
@@ -16,12 +16,9 @@ word_of_bytes n fits = omega arith
 -- from place k on a slot is its word there, then the rest
 pub word_then_rest : (slot : List ℕ) (k : ℕ) → k + 1 < length slot → AllBytes slot → drop k slot ≡ two_bytes (word_at slot k) ++ drop (k + 2) slot
 word_then_rest slot k inside bytes =
-    let first = drop_more slot k 0 (omega arith) in
-    let second = drop_more slot (k + 1) 0 inside in
-    let low_byte = All-get_or Byte slot (k + 1) 0 inside bytes in
-    let high : word_at slot k / 256 % 256 ≡ byte_at slot k = omega (arith, All-get_or Byte slot k 0 (omega arith) bytes) in
-    let low : word_at slot k % 256 ≡ byte_at slot (k + 1) = omega arith in
-    grind arith
+    let high = All-get_or Byte slot k 0 (omega arith) bytes in
+    let low = All-get_or Byte slot (k + 1) 0 inside bytes in
+    grind (arith, drop_more slot k 0, drop_more slot (k + 1) 0)
 
 -- the rest of a slot that passes is zeros
 pub rest_is_zeros : (slot : List ℕ) (k n : ℕ) → k + n ≡ length slot → all_zero (drop k slot) ≡ true → drop k slot ≡ replicate n 0

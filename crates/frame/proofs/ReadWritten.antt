@@ -14,7 +14,7 @@ use Rattle.frame.specs.Kinds.{kind_number, kind_from}
 use Rattle.frame.specs.Lawful.{Lawful, LawfulCopy, LawfulAndWritten}
 use Rattle.frame.specs.Limits.{slot_size}
 use Rattle.frame.specs.Messages.{Said, head_of, tag_at, told, reading}
-use Rattle.frame.proofs.Bounds.{members_from_pass, member_from_pass}
+use Rattle.frame.proofs.Members.{members_from_pass, member_from_pass}
 use Rattle.frame.proofs.Copies.{content_read_lawful, copy_stands}
 use Rattle.frame.proofs.Passing.{Holds, told_from_read}
 use Rattle.frame.proofs.Laws.{Laws}

@@ -9,7 +9,7 @@ use Rattle.frame.specs.Fields.{all_zero, members_of, member_passes, member_field
 use Rattle.frame.specs.Lawful.{Lawful, ReadsBack}
 use Rattle.frame.specs.Limits.{slot_size}
 use Rattle.frame.specs.Messages.{Said, put, held, update, reading}
-use Rattle.frame.proofs.Bounds.{member_passes_lawful}
+use Rattle.frame.proofs.Members.{member_passes_lawful}
 use Rattle.frame.proofs.Copies.{content_size, copy_passes}
 use Rattle.frame.proofs.Laws.{Laws}
 use Rattle.frame.proofs.Passing.{Holds, found_from_holds}

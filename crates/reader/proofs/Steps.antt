@@ -7,7 +7,7 @@ use Rattle.quorum.specs.Limits.{largest_group}
 use Rattle.frame.specs.declared.fault.FrameFault.{FrameFault}
 use Rattle.frame.specs.Limits.{slot_size}
 use Rattle.frame.specs.Fields.{verdict, judged, members_of, member_fields}
-use Rattle.frame.proofs.Bounds.{member}
+use Rattle.frame.proofs.Members.{member}
 
 -- what members i and on answer
 abbrev pub members_from : List ℕ → ℕ → Result (Unit {0}) FrameFault

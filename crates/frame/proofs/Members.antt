@@ -1,4 +1,4 @@
--- A field passes exactly if it lies within its bounds: nodes, tags, members.
+-- The members of an update pass exactly if they are lawful.
 use Rattle.std.proofs.Common.{◌≡◌, ℕ, ◌+◌, ◌<◌, ◌≤◌, true, false, ◌&&◌, eqb, leb, List, length, get_or, take, arith}
 use Rattle.std.proofs.lemmas.List.FromFn.{get_or-map-range_with_len}
 use Rattle.std.proofs.ByRecursion.{All-get_or}
@@ -15,10 +15,9 @@ use Rattle.frame.proofs.Runs.{Pass}
 pub member_passes_lawful : (count : ℕ) (members : List ℕ) → LawfulMembers count members → (i : ℕ) → i < largest_group → member_passes members count i ≡ true
 member_passes_lawful count members lawful i inside =
     let x = get_or members i 0 in
-    let size : length (take i members) ≡ i = length-take-le i members (omega (arith, lawful.seven)) in
     let new : i < count → among x (take i members) ≡ false = λ first.
     list_any_none (λ b. eqb b x) (take i members) (all_from_each (λ b. eqb b x ≡ false) (take i members) 0 (λ j before.
-    grind (arith, nat_tests, lawful.different j i, get_or-take {A = ℕ}))) in
+    grind (arith, nat_tests, lawful.different j i, get_or-take {A = ℕ}, length-take-le {A = ℕ}))) in
     grind (arith, nat_tests)
 
 -- and members that pass are lawful
