@@ -1,7 +1,6 @@
 -- What the bytes of a message tell, read as its kind, is that message, lawful or not.
 use Rattle.std.proofs.Common.{◌≡◌, ℕ, ◌-◌, true, List, ◌++◌, length, drop, replicate, Ok, Option, refl, arith}
 use Rattle.std.proofs.lemmas.List.{append_assoc, take_at, drop_at}
-use Rattle.std.proofs.lemmas.Bool.{eqb-true}
 use Rattle.std.proofs.lemmas.Bool.Decides.{nat_tests}
 use Rattle.quorum.specs.Limits.{largest_group}
 use Rattle.frame.specs.declared.message.Head.{Head}
@@ -28,10 +27,10 @@ update_parts head count members tag content seven =
 -- told as its kind, the bytes of a message give the message
 pub told_back : (width : ℕ) (message : Said) → fits width message ≡ true → WordsFit message → told width (bytes_of message) (kind_of message) ≡ message
 told_back width (put head operation tag content) fitting small =
-    let back = copy_back width (bytes_of (put head operation tag content)) 6 tag content _ refl small.1 (eqb-true (length content) width fitting) in
+    let back = copy_back width (bytes_of (put head operation tag content)) 6 tag content _ refl small.1 (grind (arith, nat_tests)) in
     cc (word_of_bytes operation small.0)
 told_back width (held head operation tag content) fitting small =
-    let back = copy_back width (bytes_of (held head operation tag content)) 6 tag content _ refl small.1 (eqb-true (length content) width fitting) in
+    let back = copy_back width (bytes_of (held head operation tag content)) 6 tag content _ refl small.1 (grind (arith, nat_tests)) in
     cc (word_of_bytes operation small.0)
 told_back width (update head count members tag content) fitting small =
     let (seven, size) : (length members ≡ largest_group) × (length content ≡ width) = grind (arith, nat_tests) in
