@@ -1,9 +1,8 @@
 -- A copy in a slot: a tag, a content and the zeros behind it, at any place.
 use Rattle.std.proofs.Common.{◌≡◌, ℕ, ◌+◌, ◌^◌, ◌<◌, true, eqb, List, [], ◌∷◌, ◌++◌, length, take, drop, replicate, is_some, Some, Option, sym, refl, ap, ◌∙◌, arith}
-use Rattle.std.proofs.ByRecursion.{All-take, All-drop}
 use Rattle.std.proofs.lemmas.List.{drop-drop, drop_at, drop_more, get_or-drop, take-append-drop, take_at}
 use Rattle.std.proofs.lemmas.Bool.Decides.{nat_tests}
-use Rattle.std.proofs.lemmas.List.Elements.{All-replicate}
+use Rattle.std.proofs.lemmas.List.Elements.{All-drop, All-from_recursion, All-replicate, All-take, recursion_from_All}
 use Rattle.std.proofs.lemmas.List.Sums.{list_all-from_AllPass}
 use Rattle.content.specs.Bytes.{Byte, AllBytes}
 use Rattle.frame.specs.declared.message.Tag.{Tag}
@@ -45,7 +44,8 @@ module _ {C : Type 0} (width : ℕ) (meaning : C → List ℕ) (reads : List ℕ
   pub content_read_lawful : (slot : List ℕ) (i : ℕ) → AllBytes slot → is_some (reads (take width (drop i slot))) ≡ true → LawfulContent meaning (take width (drop i slot))
   content_read_lawful slot i bytes known =
       let (value, is) : (value : C) × (reads (take width (drop i slot)) ≡ Some value) = grind arith in
-      (value, laws.writes_read _ value (All-take Byte width (drop i slot) (All-drop Byte i slot bytes)) is)
+      let part = All-take Byte width (drop i slot) (All-drop Byte i slot (All-from_recursion Byte slot bytes)) in
+      (value, laws.writes_read _ value (recursion_from_All Byte _ part) is)
 
 -- a copy stands wherever there is room for one and the n bytes behind it are 0
 pub copy_stands : (width : ℕ) (slot : List ℕ) (i n : ℕ) → AllBytes slot → i + 3 + width + n ≡ length slot → all_zero (drop (i + 3 + width) slot) ≡ true

@@ -1,9 +1,8 @@
 -- The members of an update pass exactly if they are lawful.
 use Rattle.std.proofs.Common.{◌≡◌, ℕ, ◌+◌, ◌<◌, ◌≤◌, true, false, ◌&&◌, eqb, leb, List, length, get_or, take, arith}
 use Rattle.std.proofs.lemmas.List.FromFn.{get_or-map-range_with_len}
-use Rattle.std.proofs.ByRecursion.{All-get_or}
 use Rattle.std.proofs.lemmas.List.{get_or-take, length-take-le}
-use Rattle.std.proofs.lemmas.List.Elements.{All-from_get_or as all_from_each}
+use Rattle.std.proofs.lemmas.List.Elements.{All-from_get_or as all_from_each, All-from_recursion}
 use Rattle.std.proofs.lemmas.List.Folds.{list_any_at, list_any_none}
 use Rattle.std.proofs.lemmas.Bool.Decides.{nat_tests}
 use Rattle.quorum.specs.Limits.{largest_group}
@@ -42,4 +41,4 @@ module _ (slot : List ℕ) where
   pub member_from_pass : Pass (member_fields slot) → (i : ℕ) → i < largest_group → member_passes (members_of slot) (byte_at slot 4) i ≡ true
   member_from_pass pass i inside =
       rw (get_or-map-range_with_len member 0 largest_group i i (member 0) inside (omega arith)) at
-      (All-get_or (λ (test : Test). test.passes ≡ true) (member_fields slot) i (member 0) inside pass)
+      (All-from_recursion (λ (test : Test). test.passes ≡ true) (member_fields slot) pass i (member 0) inside)
