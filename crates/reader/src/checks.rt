@@ -11,7 +11,7 @@ use content::Content;
 use frame::{Cause, FrameFault, FrameKind, SLOT};
 
 /// The kind of the frame in a slot, and the number of bytes that it takes; or the fault of the first field that fails.
-/// `check::<Quote>(&[8; 32])` is the fault of cause 1 at offset 0.
+/// `check::<Quote>(&[8; 32])` is the fault of cause 1 at offset 0. The kind is told by its number: the answer is promised as two plain numbers.
 pub fn check<C: Content>(slot: &[u8]) -> Result<(u8, usize), FrameFault>
     ensures { result ≡ checked C.width C.reads slot.now }
 {

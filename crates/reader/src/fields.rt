@@ -1,4 +1,5 @@
 //! The fields of a frame, a function for each run of them; each answers the fault of the first that fails.
+//! A field that stands at several places is told by the slot and `at`, the place: the two are the list and the index of `slot[at]`.
 ghost use Rattle.std.specs.Prelude.{◌≡◌, ◌+◌, ◌≤◌, ◌&&◌, ◌==◌, not, drop, if◌then◌else◌};
 ghost use Rattle.quorum.specs.Limits.{largest_group};
 ghost use Rattle.frame.specs.Fields.{judged, verdict, test, word_at, is_node, all_zero, among, node_suits};

@@ -86,7 +86,7 @@ fn show_weighted_group(rt: &HostRuntime, weights: [u8; LARGEST_GROUP], size: u8)
 
 // Which sets of acknowledgements win in a group of this size, and which lose.
 fn show_group<Q: QuorumRule>(rt: &HostRuntime, rule: &Q, size: u8) -> io::Result<()> {
-    if size == 0 || usize::from(size) > LARGEST_GROUP {
+    if !(1..=LARGEST_GROUP).contains(&usize::from(size)) {
         return println!(rt; "    no group has this size");
     }
     print!(rt; "    wins ")?;

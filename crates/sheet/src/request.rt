@@ -26,7 +26,7 @@ pub enum Request {
     Majority {
         size: u8,
     },
-    /// `weighted WEIGHT ..`: which sets win in a group with a place for each weight
+    /// `weighted WEIGHT ..`: which sets win in a group with a place for each weight; a rule has seven weights, whatever the size
     Weighted {
         weights: [u8; LARGEST_GROUP],
         size: u8,
@@ -75,7 +75,7 @@ impl<'a> Words<'a> {
         self.0.next()
     }
 
-    // The request of this name, whose words are all that are left.
+    // The request of this name, whose words are all that are left. Each name has other words, so there is no table of readers.
     fn request(&mut self, name: &str) -> Option<Request> {
         let request = match name {
             "quote" => {

@@ -95,7 +95,7 @@ fn update(head: Head, count: u8, members: &[u8], tag: Tag, content: &[u8]) -> [u
     slot
 }
 
-// A tag and a content behind it.
+// A tag and a content behind it: two fields of a message, as its pattern names them.
 fn lay_copy(slot: &mut [u8; SLOT], at: usize, tag: Tag, content: &[u8])
     requires { at + 3 + length content.now ≤ slot_size }
     ensures { slot.new ≡ laid (laid slot.old at (tag_bytes tag)) (at + 3) content.now }
