@@ -1,2 +1,2 @@
 pub mod FourBytes
-pub mod Padded
+pub mod Slices

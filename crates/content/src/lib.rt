@@ -9,6 +9,7 @@ ghost use Rattle.content.specs.Bytes.{AllBytes, padded, widest};
 pub const WIDEST: usize = 16;
 
 /// A kind of content. A value is known by its bytes: `meaning` says which these are, `reads` which value bytes stand for.
+/// Both ways are methods, and no `From` or `TryFrom`, so that a kind implements one trait with the laws of both.
 pub trait Content: Sized + Drop {
     /// How many bytes each value takes.
     ghost width: { ℕ };

@@ -38,12 +38,12 @@ impl fmt::Display for Cause {
     ghost output = { λ cause. Some (shown_cause cause) };
 
     fn fmt<W: fmt::Write>(&self, f: &mut fmt::Formatter<W>) -> fmt::Result {
-        match self {
-            Cause::Kind => write!(f, "kind"),
-            Cause::Field => write!(f, "field"),
-            Cause::Content => write!(f, "content"),
-            Cause::Rest => write!(f, "rest"),
-        }
+        f.write_str(match self {
+            Cause::Kind => "kind",
+            Cause::Field => "field",
+            Cause::Content => "content",
+            Cause::Rest => "rest",
+        })
     }
 }
 

@@ -57,7 +57,7 @@ pub enum Message<'a> {
         tag: Tag,
         content: &'a [u8],
     },
-    /// installs a configuration: the first `count` of the seven members, and the copy that it opens with
+    /// installs a configuration: the first `count` of the seven members, and the copy that it opens with; count and members are two fields of the frame
     Update {
         head: Head,
         count: u8,

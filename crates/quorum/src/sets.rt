@@ -25,5 +25,5 @@ pub(crate) fn member(place: usize, set: u8) -> bool
     requires { place < largest_group }
     ensures { result ≡ member place set }
 {
-    set >> place & 1 == 1
+    (set >> place) & 1 == 1
 }

@@ -8,7 +8,7 @@ use crate::{LARGEST_GROUP, QuorumRule};
 use refusal::Refusal;
 
 /// A set wins if it has more than half of the weight. Each place weighs 0 to 100, the first at least 1: there is no other such rule.
-#[derive(Clone, Copy, Debug)]
+#[derive(Clone, Copy, Debug, PartialEq, Eq)]
 pub struct Weighted {
     weights: [u8; LARGEST_GROUP],
     ghost seven: { length weights ≡ largest_group },

@@ -74,8 +74,7 @@ fn plain(slot: &[u8; SLOT]) -> Result<(), FrameFault>
 fn with_copy<C: Content>(slot: &[u8; SLOT]) -> Result<(), FrameFault>
     ensures { result ≡ judged_runs (copy_runs C.width C.reads slot.now) tt }
 {
-    fields::route(slot)?;
-    fields::number_and_operation(slot)?;
+    plain(slot)?;
     fields::tag(slot, 6)?;
     fields::content::<C>(slot, 9)
 }

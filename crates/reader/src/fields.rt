@@ -1,6 +1,6 @@
 //! The fields of a frame, a function for each run of them; each answers the fault of the first that fails.
 //! A field that stands at several places is told by the slot and `at`, the place: the two are the list and the index of `slot[at]`.
-ghost use Rattle.std.specs.Prelude.{◌≡◌, ◌+◌, ◌≤◌, ◌&&◌, ◌==◌, not, drop, if◌then◌else◌};
+ghost use Rattle.std.specs.Prelude.{◌≡◌, ◌+◌, ◌≤◌, ◌&&◌, ◌==◌, not, take, drop, if◌then◌else◌};
 ghost use Rattle.quorum.specs.Limits.{largest_group};
 ghost use Rattle.frame.specs.Fields.{judged, verdict, test, word_at, is_node, all_zero, among, node_suits};
 ghost use Rattle.frame.specs.Fields.{route_fields, number_operation_fields, number_count_fields, member_fields, tag_fields, content_fields, rest_test};
@@ -17,8 +17,7 @@ pub(crate) fn route(slot: &[u8; SLOT]) -> Result<(), FrameFault>
     ensures { result ≡ judged (route_fields slot.now) tt }
 {
     require(is_node(slot[1]), Cause::Field, 1)?;
-    require(is_node(slot[2]), Cause::Field, 2)?;
-    Ok(())
+    require(is_node(slot[2]), Cause::Field, 2)
 }
 
 /// Number and operation.
@@ -26,8 +25,7 @@ pub(crate) fn number_and_operation(slot: &[u8; SLOT]) -> Result<(), FrameFault>
     ensures { result ≡ judged (number_operation_fields slot.now) tt }
 {
     require(slot[3] <= HIGHEST_NUMBER, Cause::Field, 3)?;
-    require(word(slot, 4) <= HIGHEST_OPERATION, Cause::Field, 4)?;
-    Ok(())
+    require(word(slot, 4) <= HIGHEST_OPERATION, Cause::Field, 4)
 }
 
 /// Number and count of an update.
@@ -36,8 +34,7 @@ pub(crate) fn number_and_count(slot: &[u8; SLOT]) -> Result<(), FrameFault>
 {
     require((1..=HIGHEST_NUMBER).contains(&slot[3]), Cause::Field, 3)?;
     let count = usize::from(slot[4]);
-    require((1..=LARGEST_GROUP).contains(&count), Cause::Field, 4)?;
-    Ok(())
+    require((1..=LARGEST_GROUP).contains(&count), Cause::Field, 4)
 }
 
 /// The seven members of an update.
@@ -61,8 +58,7 @@ pub(crate) fn tag(slot: &[u8; SLOT], at: usize) -> Result<(), FrameFault>
 {
     let version = word(slot, at);
     require(version <= HIGHEST_VERSION, Cause::Field, at)?;
-    require(node_suits(version, slot[at + 2]), Cause::Field, at + 2)?;
-    Ok(())
+    require(node_suits(version, slot[at + 2]), Cause::Field, at + 2)
 }
 
 /// The content that begins at a place: its bytes go to the kind of content, which says whether they are its own.
@@ -70,9 +66,8 @@ pub(crate) fn content<C: Content>(slot: &[u8; SLOT], at: usize) -> Result<(), Fr
     requires { at + C.width ≤ slot_size }
     ensures { result ≡ judged (content_fields C.width C.reads slot.now at) tt }
 {
-    let bytes = &slot[at..at + C::width()];
-    require(C::from_bytes(bytes).is_some(), Cause::Content, at)?;
-    Ok(())
+    let own = C::from_bytes(content_at::<C>(slot, at)).is_some();
+    require(own, Cause::Content, at)
 }
 
 /// The rest of the slot, from a place on.
@@ -90,7 +85,15 @@ pub(crate) fn word(slot: &[u8; SLOT], at: usize) -> u16
     u16::from_be_bytes([slot[at], slot[at + 1]])
 }
 
-// Nothing, or the fault of a field that does not pass.
+/// The bytes of the content that begins at a place.
+pub(crate) fn content_at<C: Content>(slot: &[u8; SLOT], at: usize) -> &[u8]
+    requires { at + C.width ≤ slot_size }
+    ensures { result.now ≡ take C.width (drop at slot.now) }
+{
+    &slot[at..at + C::width()]
+}
+
+// Nothing, or the fault of a field that does not pass; `passes` is the answer of the field's test.
 fn require(passes: bool, cause: Cause, offset: usize) -> Result<(), FrameFault>
     ensures { result ≡ verdict (test passes cause offset) }
 {
@@ -117,7 +120,7 @@ fn node_suits(version: u16, node: u8) -> bool
     }
 }
 
-// A counted member is a node that is none of those before it, any other is 0.
+// A counted member is a node that is none of those before it, any other is 0. Written into the loop above, its step was not proved.
 fn member_passes(member: u8, before: &[u8], counted: bool) -> bool
     ensures { result ≡ (if counted then is_node member && not (among member before.now) else member == 0) }
 {

@@ -5,7 +5,7 @@ ghost use Rattle.frame.specs.Limits.{slot_size};
 ghost use Rattle.frame.specs.Messages.{says, answers, reading, told, head_of, tag_at};
 
 use crate::checks::{frame_in, whole};
-use crate::fields::word;
+use crate::fields::{content_at, word};
 use content::Content;
 use frame::{FrameFault, FrameKind, Head, Message, SLOT, Tag};
 
@@ -19,7 +19,7 @@ pub fn read<'a, C: Content>(slot: &'a [u8]) -> Result<Message<'a>, FrameFault>
     Ok(told::<C>(slot, kind))
 }
 
-// What a slot of this kind says.
+// What a slot of this kind says. Put and held have the same fields, and differ in the case that is made of them.
 fn told<'a, C: Content>(slot: &'a [u8; SLOT], kind: FrameKind) -> Message<'a>
     ensures { says result ≡ told C.width slot.now kind }
 {
@@ -32,7 +32,7 @@ fn told<'a, C: Content>(slot: &'a [u8; SLOT], kind: FrameKind) -> Message<'a>
             head,
             operation,
             tag: tag(slot, 6),
-            content: &slot[9..9 + C::width()],
+            content: content_at::<C>(slot, 9),
         },
         FrameKind::PutAck => Message::PutAck { head, operation },
         FrameKind::Freeze => Message::Freeze { head, operation },
@@ -40,14 +40,14 @@ fn told<'a, C: Content>(slot: &'a [u8; SLOT], kind: FrameKind) -> Message<'a>
             head,
             operation,
             tag: tag(slot, 6),
-            content: &slot[9..9 + C::width()],
+            content: content_at::<C>(slot, 9),
         },
         FrameKind::Update => Message::Update {
             head,
             count: slot[4],
             members: &slot[5..12],
             tag: tag(slot, 12),
-            content: &slot[15..15 + C::width()],
+            content: content_at::<C>(slot, 15),
         },
     }
 }

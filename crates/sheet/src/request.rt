@@ -8,7 +8,7 @@ use std::str::{FromStr, SplitWhitespace};
 
 /// What a line asks for.
 #[derive(Clone, Copy)]
-pub enum Request {
+pub(crate) enum Request {
     /// `quote BID ASK`: make it, write it, read it back
     Quote {
         bid: u32,
@@ -46,8 +46,9 @@ pub enum Request {
 
 /// A line that is no request.
 #[derive(Clone, Copy, Debug, PartialEq, Eq)]
-pub struct NotUnderstood;
+pub(crate) struct NotUnderstood;
 
+// By hand: a derive of it is another crate's, and no shorter.
 impl fmt::Display for NotUnderstood {
     fn fmt<W: fmt::Write>(&self, f: &mut fmt::Formatter<W>) -> fmt::Result {
         write!(f, "not understood")

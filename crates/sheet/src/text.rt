@@ -23,7 +23,7 @@ pub struct Places(pub u8);
 
 impl fmt::Display for Places {
     fn fmt<W: fmt::Write>(&self, f: &mut fmt::Formatter<W>) -> fmt::Result {
-        let mut places = (0..8u32).filter(|place| (self.0 >> *place) % 2 == 1);
+        let mut places = (0..8u32).filter(|place| (self.0 >> *place) & 1 == 1);
         if let Some(first) = places.next() {
             write!(f, "{first}")?;
             for place in places {

@@ -2,7 +2,7 @@
 ghost use Rattle.std.specs.Prelude.{◌≡◌, ◌+◌, ◌≤◌, true, length};
 ghost use Rattle.content.specs.Bytes.{widest};
 ghost use Rattle.quorum.specs.Limits.{largest_group};
-ghost use Rattle.frame.specs.Bytes.{plain_bytes, copy_bytes, update_bytes, filled, bytes_of, tag_bytes, fits};
+ghost use Rattle.frame.specs.Bytes.{head_bytes, plain_bytes, copy_bytes, update_bytes, filled, bytes_of, tag_bytes, fits};
 ghost use Rattle.frame.specs.Limits.{slot_size};
 ghost use Rattle.frame.specs.Messages.{says};
 ghost use Rattle.writer.specs.Layout.{laid};
@@ -57,13 +57,8 @@ fn plain(kind: FrameKind, head: Head, operation: u16) -> [u8; SLOT]
     ensures { result ≡ filled (plain_bytes kind head operation) }
 {
     let mut slot = [0; SLOT];
-    let number = kind.number();
-    let [high, low] = operation.to_be_bytes();
-    lay(
-        &mut slot,
-        0,
-        &[number, head.receiver, head.sender, head.number, high, low],
-    );
+    lay_head(&mut slot, kind, head);
+    lay(&mut slot, 4, &operation.to_be_bytes());
     slot
 }
 
@@ -84,15 +79,19 @@ fn update(head: Head, count: u8, members: &[u8], tag: Tag, content: &[u8]) -> [u
     ensures { result ≡ filled (update_bytes head count members.now tag content.now) }
 {
     let mut slot = [0; SLOT];
-    let number = FrameKind::Update.number();
-    lay(
-        &mut slot,
-        0,
-        &[number, head.receiver, head.sender, head.number, count],
-    );
+    lay_head(&mut slot, FrameKind::Update, head);
+    lay(&mut slot, 4, &[count]);
     lay(&mut slot, 5, members);
     lay_copy(&mut slot, 12, tag, content);
     slot
+}
+
+// What every frame begins with.
+fn lay_head(slot: &mut [u8; SLOT], kind: FrameKind, head: Head)
+    ensures { slot.new ≡ laid slot.old 0 (head_bytes kind head) }
+{
+    let number = kind.number();
+    lay(slot, 0, &[number, head.receiver, head.sender, head.number]);
 }
 
 // A tag and a content behind it: two fields of a message, as its pattern names them.

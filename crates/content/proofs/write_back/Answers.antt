@@ -1,6 +1,6 @@
 -- The meaning of what was read is the bytes that it was read from.
 use Rattle.std.proofs.Common.{arith}
-use Rattle.content.proofs.Padded.{bytes_from_fits}
+use Rattle.content.proofs.Slices.{bytes_from_fits}
 use Rattle.content.proofs.write_back.Goals as goal
 
 pub returns : goal.returns

@@ -1,6 +1,6 @@
 -- The answer is what reading answers; so it is lawful and was written so.
 use Rattle.std.proofs.Common.{Ok, arith}
-use Rattle.content.proofs.Padded.{bytes_from_fits}
+use Rattle.content.proofs.Slices.{bytes_from_fits}
 use Rattle.frame.specs.Messages.{answers}
 use Rattle.frame.proofs.ReadWritten.{answer_was_written}
 use Rattle.reader.proofs.reads.read.Goals as goal

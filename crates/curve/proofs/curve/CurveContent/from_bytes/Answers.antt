@@ -1,7 +1,7 @@
 -- The four numbers that the chunks hold are the rates of the curve that is read.
 use Rattle.std.proofs.Common.{◌≡◌, length, rules}
 use Rattle.content.proofs.FourBytes.{number_at_fits}
-use Rattle.content.proofs.Padded.{bytes_from_fits}
+use Rattle.content.proofs.Slices.{bytes_from_fits}
 use Rattle.curve.specs.Curve.{curve_at}
 use Rattle.curve.specs.CurveLaws.{same_curve, rate_value}
 use Rattle.curve.proofs.curve.CurveContent.from_bytes.Goals as goal
