@@ -27,7 +27,7 @@ pub trait QuorumRule {
     /// Whether a set wins at a size.
     ghost winning: { Self → ℕ → ℕ → Bool };
 
-    /// Whether the set wins at the size: `Majority.wins(4, 0b0111)` is true. Any two numbers may be asked about; a type of both would have to refuse some.
+    /// Whether the set wins at the size: `Majority.wins(4, 0b0111)` is true. Any two numbers may be asked about, so they are no type of their own.
     fn wins(&self, size: u8, set: u8) -> bool
         ensures { result ≡ winning self.now size set };
 
