@@ -30,8 +30,7 @@ impl fmt::Display for Rate {
     ghost output = { λ rate. Some (signed_decimal rate.value) };
 
     fn fmt<W: fmt::Write>(&self, f: &mut fmt::Formatter<W>) -> fmt::Result {
-        let value = self.value;
-        write!(f, "{value}")
+        write!(f, "{}", self.value)
     }
 }
 

@@ -52,9 +52,7 @@ impl fmt::Display for FrameFault {
 
     fn fmt<W: fmt::Write>(&self, f: &mut fmt::Formatter<W>) -> fmt::Result {
         let number = self.cause.number();
-        let cause = self.cause;
-        let offset = self.offset;
-        write!(f, "cause {number} ({cause}), offset {offset}")
+        write!(f, "cause {number} ({}), offset {}", self.cause, self.offset)
     }
 }
 

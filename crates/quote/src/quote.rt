@@ -85,8 +85,6 @@ impl fmt::Display for Quote {
     ghost output = { λ quote. Some (shown_quote quote) };
 
     fn fmt<W: fmt::Write>(&self, f: &mut fmt::Formatter<W>) -> fmt::Result {
-        let bid = self.bid;
-        let ask = self.ask;
-        write!(f, "{bid} {ask}")
+        write!(f, "{} {}", self.bid, self.ask)
     }
 }

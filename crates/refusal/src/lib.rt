@@ -39,9 +39,7 @@ impl fmt::Display for Refusal {
     ghost output = { λ refusal. Some (shown_refusal refusal) };
 
     fn fmt<W: fmt::Write>(&self, f: &mut fmt::Formatter<W>) -> fmt::Result {
-        let number = self.number();
-        let words = self.words();
-        write!(f, "{number}: {words}")
+        write!(f, "{}: {}", self.number(), self.words())
     }
 }
 
