@@ -28,7 +28,11 @@ none_too_heavy ws = list_all (λ w. nat_le w heaviest) ws
 abbrev pub weighted : List ℕ → Result (List ℕ) Refusal
 weighted weights = if nat_le 1 (slice_index weights 0) && none_too_heavy weights then Ok weights else Err Unlawful
 
+-- the weights of a rule
+abbrev pub weights_of : Weighted → List ℕ
+weights_of rule = rule.weights
+
 -- a rule that was made or refused, by its weights
 abbrev pub rule_weights : Result Weighted Refusal → Result (List ℕ) Refusal
-rule_weights (Ok rule) = Ok rule.weights
+rule_weights (Ok rule) = Ok (weights_of rule)
 rule_weights (Err refusal) = Err refusal

@@ -42,11 +42,11 @@ impl Weighted {
 }
 
 impl QuorumRule for Weighted {
-    ghost use Rattle.quorum.specs.Rules.{outweighs_half};
+    ghost use Rattle.quorum.specs.Rules.{outweighs_half, weights_of};
     ghost use Rattle.quorum.specs.WeightedLaws.{outweighing_halves_meet, everyone_outweighs_half};
     ghost use Rattle.std.proofs.Common.{rules};
 
-    ghost winning = { λ rule size set. outweighs_half rule.weights size set };
+    ghost winning = { λ rule size set. outweighs_half (weights_of rule) size set };
 
     ghost winners_in_bounds = { Prim.search rules };
 
