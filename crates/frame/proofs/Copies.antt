@@ -2,9 +2,10 @@
 use Rattle.std.proofs.Common.{◌≡◌, ℕ, ◌+◌, ◌^◌, ◌<◌, true, eqb, List, [], ◌∷◌, ◌++◌, length, take, drop, replicate, is_some, Some, Option, sym, refl, ap, ◌∙◌, arith}
 use Rattle.std.proofs.lemmas.List.{drop-drop, drop_at, drop_more, get_or-drop, take-append-drop, take_at}
 use Rattle.std.proofs.lemmas.Bool.Decides.{nat_tests}
-use Rattle.std.proofs.lemmas.List.Elements.{All-drop, All-from_recursion, All-replicate, All-take, recursion_from_All}
+use Rattle.std.proofs.lemmas.List.Elements.{All-replicate}
 use Rattle.std.proofs.lemmas.List.Sums.{list_all-from_AllPass}
-use Rattle.content.specs.Bytes.{Byte, AllBytes}
+use Rattle.content.specs.Bytes.{AllBytes}
+use Rattle.content.proofs.Slices.{part_is_bytes}
 use Rattle.frame.specs.declared.message.Tag.{Tag}
 use Rattle.frame.specs.Bytes.{tag_bytes}
 use Rattle.frame.specs.Fields.{byte_at, word_at, all_zero, tag_fields, content_fields}
@@ -44,8 +45,7 @@ module _ {C : Type 0} (width : ℕ) (meaning : C → List ℕ) (reads : List ℕ
   pub content_read_lawful : (slot : List ℕ) (i : ℕ) → AllBytes slot → is_some (reads (take width (drop i slot))) ≡ true → LawfulContent meaning (take width (drop i slot))
   content_read_lawful slot i bytes known =
       let (value, is) : (value : C) × (reads (take width (drop i slot)) ≡ Some value) = grind arith in
-      let part = All-take Byte width (drop i slot) (All-drop Byte i slot (All-from_recursion Byte slot bytes)) in
-      (value, laws.writes_read _ value (recursion_from_All Byte _ part) is)
+      (value, laws.writes_read _ value (part_is_bytes i width slot bytes) is)
 
 -- a copy stands wherever there is room for one and the n bytes behind it are 0
 pub copy_stands : (width : ℕ) (slot : List ℕ) (i n : ℕ) → AllBytes slot → i + 3 + width + n ≡ length slot → all_zero (drop (i + 3 + width) slot) ≡ true

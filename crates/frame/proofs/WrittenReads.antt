@@ -2,6 +2,7 @@
 use Rattle.std.proofs.Common.{◌≡◌, ℕ, ◌<◌, ◌≤◌, true, List, length, drop, Ok, Option, refl, ap, arith}
 use Rattle.std.proofs.lemmas.List.{length-append, length-replicate}
 use Rattle.std.proofs.lemmas.Bool.Decides.{nat_tests}
+use Rattle.content.specs.Bytes.{AllBytes}
 use Rattle.quorum.specs.Limits.{largest_group}
 use Rattle.frame.specs.Bytes.{taken, bytes_of, kind_of, fits, WordsFit}
 use Rattle.frame.specs.Check.{kind_runs, kind_takes}
@@ -14,6 +15,7 @@ use Rattle.frame.proofs.Copies.{content_size, copy_passes}
 use Rattle.frame.proofs.Laws.{Laws}
 use Rattle.frame.proofs.Passing.{Holds, found_from_holds}
 use Rattle.frame.proofs.Places.{word_of_bytes}
+use Rattle.frame.proofs.ReadWritten.{answer_was_written}
 use Rattle.frame.proofs.Runs.{Pass, PassAll}
 use Rattle.frame.proofs.ToldBack.{first_byte, update_parts, told_back, nothing_else_is_read}
 
@@ -58,9 +60,12 @@ module _ {C : Type 0} (width : ℕ) (meaning : C → List ℕ) (reads : List ℕ
       record { long = bytes_fill_a_slot message fitting; first = first_byte message; pass = pass; rest = rest } in
       rw (found_from_holds width reads (bytes_of message) (kind_of message) holds) (ap Ok (told_back width message fitting (lawful_words message lawful)))
 
-  -- the same of a slot that holds those bytes
-  pub slot_reads_back : (message : Said) (slot : List ℕ) → fits width message ≡ true → WordsFit message → slot ≡ bytes_of message → ReadsBack width meaning reads message slot
-  slot_reads_back message slot fitting small same = rw same (record {
-    lawful_is_read = written_reads_back message;
-    no_other_is_read = λ other. nothing_else_is_read width reads message other fitting small;
-  })
+  -- the same of a slot that holds those bytes; a message that is not lawful is not read of it, since what is read is lawful
+  pub slot_reads_back : (message : Said) (slot : List ℕ) → fits width message ≡ true → WordsFit message → AllBytes slot → slot ≡ bytes_of message → ReadsBack width meaning reads message slot
+  slot_reads_back message slot fitting small bytes same = record {
+    lawful_is_read = λ lawful. rw same (written_reads_back message lawful);
+    nothing_else_is_read = λ other is.
+        let alike = nothing_else_is_read width reads message other fitting small (rw (← same) is) in
+        let (lawful, written) = answer_was_written width meaning reads laws slot (reading width reads slot) bytes refl other is in
+        (rw (← alike) lawful, alike);
+  }

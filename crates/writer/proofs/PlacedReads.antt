@@ -4,6 +4,8 @@ use borrow.Rule.Slice.PartMut.{put_mid}
 use Rattle.std.proofs.lemmas.List.{drop_at, drop-drop, take_at, length-take-le}
 use Rattle.std.proofs.lemmas.Bool.{lt-ltb}
 use Rattle.std.proofs.lemmas.Bool.Decides.{nat_tests}
+use Rattle.content.specs.Bytes.{AllBytes}
+use Rattle.content.proofs.Slices.{part_is_bytes}
 use Rattle.refusal.specs.declared.Refusal.{Refusal}
 use Rattle.frame.specs.Bytes.{bytes_of, fits, WordsFit}
 use Rattle.frame.specs.Lawful.{ReadsBack}
@@ -26,10 +28,10 @@ placed_so width table written slot message below fitting same =
 
 -- so the slot is read back as that message
 pub placed_reads_back : {C : Type 0} (width : ℕ) (meaning : C → List ℕ) (reads : List ℕ → Option C) → Laws width meaning reads → (table after : List ℕ) (slot : ℕ) (message : Said)
-    (r : Result (Unit {0}) Refusal) → ◌≡◌ {A = Outcome} (r, after) (placed width table slot message) → WordsFit message → r ≡ Ok tt → ReadsBack width meaning reads message (slot_of after slot)
-placed_reads_back width meaning reads laws table after slot message r is small taken =
+    (r : Result (Unit {0}) Refusal) → ◌≡◌ {A = Outcome} (r, after) (placed width table slot message) → WordsFit message → AllBytes after → r ≡ Ok tt → ReadsBack width meaning reads message (slot_of after slot)
+placed_reads_back width meaning reads laws table after slot message r is small bytes taken =
     let (below, (fitting, left)) : (slot < slots table) × ((fits width message ≡ true) × (after ≡ replaced table slot (bytes_of message))) = grind (arith, nat_tests) in
     let before = length-take-le (slot * slot_size) table (omega arith) in
     let long = bytes_fill_a_slot width meaning reads laws message fitting in
-    slot_reads_back width meaning reads laws message (slot_of after slot) fitting small
+    slot_reads_back width meaning reads laws message (slot_of after slot) fitting small (part_is_bytes (slot * slot_size) slot_size after bytes)
     (rw (left, drop_at (take (slot * slot_size) table) _ (slot * slot_size) before, take_at (bytes_of message) _ slot_size long))
