@@ -63,8 +63,9 @@ pub record FrameExamples : Type 0 where
   pub empty_slot : (rest : List ℕ) → length rest ≡ 31 → quote_checked (0 ∷ rest) ≡ Err (fault Kind 0)
   pub get_rest : quote_checked (slice_set a_get 31 1) ≡ Err (fault Rest 6)
   pub curve_update_rest : curve_checked (slice_set a_curve_update 31 1) ≡ Err (fault Rest 31)
-  -- The put with the highest lawful numbers, and with one field changed: receiver, sender, number, operation, version, node, content, rest.
+  -- The put with the highest lawful numbers, with the opening tag, and with one field changed: receiver, sender, number, operation, version, node, content, rest.
   pub put_highest : quote_checked (laid a_put 1 (16 ∷ 16 ∷ 16 ∷ 0x0F ∷ 0xFF ∷ 0x27 ∷ 0x0F ∷ 16 ∷ [])) ≡ Ok (3, 17)
+  pub put_opening_tag : quote_checked (laid a_put 6 (0 ∷ 0 ∷ 0 ∷ [])) ≡ Ok (3, 17)
   pub put_receiver : quote_checked (slice_set a_put 1 17) ≡ Err (fault Field 1)
   pub put_sender : quote_checked (slice_set a_put 2 0) ≡ Err (fault Field 2)
   pub put_number : quote_checked (slice_set a_put 3 17) ≡ Err (fault Field 3)
@@ -73,12 +74,12 @@ pub record FrameExamples : Type 0 where
   pub put_node_without_version : quote_checked (slice_set a_put 7 0) ≡ Err (fault Field 8)
   pub put_version_without_node : quote_checked (slice_set a_put 8 0) ≡ Err (fault Field 8)
   pub put_node : quote_checked (slice_set a_put 8 17) ≡ Err (fault Field 8)
-  pub put_content : quote_checked (slice_set a_put 11 2) ≡ Err (fault Content 9)
+  pub put_content : quote_checked (slice_set a_put 12 0xFF) ≡ Err (fault Content 9)
   pub put_rest : quote_checked (slice_set a_put 31 1) ≡ Err (fault Rest 17)
-  -- Of several faults the first field's is told.
+  -- Of two faults the first field's is told.
   pub put_sender_before_node : quote_checked (slice_set (slice_set a_put 7 0) 2 0) ≡ Err (fault Field 2)
-  pub put_node_before_content : quote_checked (slice_set (slice_set a_put 7 0) 11 2) ≡ Err (fault Field 8)
-  pub put_content_before_rest : quote_checked (slice_set (slice_set a_put 31 1) 11 2) ≡ Err (fault Content 9)
+  pub put_node_before_content : quote_checked (slice_set (slice_set a_put 7 0) 12 0xFF) ≡ Err (fault Field 8)
+  pub put_content_before_rest : quote_checked (slice_set (slice_set a_put 31 1) 12 0xFF) ≡ Err (fault Content 9)
   -- The update with the highest number and seven members, and with one field changed: number, count, a member that is no node, a repeated one, one behind the count, version, node, content, rest.
   pub update_highest : quote_checked (laid an_update 3 (16 ∷ 7 ∷ 16 ∷ 15 ∷ 14 ∷ 13 ∷ 12 ∷ 11 ∷ 10 ∷ [])) ≡ Ok (7, 23)
   pub update_number : quote_checked (slice_set an_update 3 0) ≡ Err (fault Field 3)
@@ -87,11 +88,15 @@ pub record FrameExamples : Type 0 where
   pub update_member : quote_checked (slice_set an_update 5 17) ≡ Err (fault Field 5)
   pub update_member_none : quote_checked (slice_set an_update 6 0) ≡ Err (fault Field 6)
   pub update_member_repeated : quote_checked (slice_set an_update 7 2) ≡ Err (fault Field 7)
-  pub update_member_behind_the_count : quote_checked (slice_set an_update 8 5) ≡ Err (fault Field 8)
+  pub update_member_behind_the_count : quote_checked (slice_set an_update 8 1) ≡ Err (fault Field 8)
   pub update_version : quote_checked (laid an_update 12 (0x27 ∷ 0x10 ∷ [])) ≡ Err (fault Field 12)
   pub update_node : quote_checked (slice_set an_update 14 0) ≡ Err (fault Field 14)
-  pub update_content : quote_checked (slice_set an_update 17 2) ≡ Err (fault Content 15)
+  pub update_content : quote_checked (slice_set an_update 18 0xFF) ≡ Err (fault Content 15)
   pub update_rest : quote_checked (slice_set an_update 31 1) ≡ Err (fault Rest 23)
+  -- Of two faults the first field's is told.
+  pub update_member_before_version : quote_checked (laid (slice_set an_update 7 2) 12 (0x27 ∷ 0x10 ∷ [])) ≡ Err (fault Field 7)
+  pub update_node_before_content : quote_checked (slice_set (slice_set an_update 14 0) 18 0xFF) ≡ Err (fault Field 14)
+  pub update_content_before_rest : quote_checked (slice_set (slice_set an_update 31 1) 18 0xFF) ≡ Err (fault Content 15)
   -- Into a table of two slots nothing goes as a third, and a put with no content goes into none.
   pub third_of_two : placed 8 (replicate 64 0) 2 (get from_1_to_2 1) ≡ (Err NoSlot, replicate 64 0)
   pub content_missing : placed 8 (replicate 64 0) 1 (put from_1_to_2 1 (record { version = 1; node = 1 }) []) ≡ (Err Unlawful, replicate 64 0)

@@ -36,7 +36,7 @@ pub fn frame_examples_stand() -> bool
 mod tests {
     use content::{Content, read_back};
     use curve::Curve;
-    use frame::{FrameFault, Head, Message, Tag};
+    use frame::{Cause, FrameFault, Head, Message, Tag};
     use quorum::{Majority, QuorumRule, Weighted};
     use quote::Quote;
     use reader::{check as check_frame, read};
@@ -111,11 +111,8 @@ mod tests {
         }
     }
 
-    // The cause's number and the offset of a fault, if it is one.
-    fn fault<T: Drop>(answer: Result<T, FrameFault>) -> Option<(u8, usize)> {
-        answer
-            .err()
-            .map(|fault| (fault.cause.number(), fault.offset))
+    fn fault(cause: Cause, offset: usize) -> FrameFault {
+        FrameFault { cause, offset }
     }
 
     #[test]
@@ -130,7 +127,7 @@ mod tests {
         assert!(rt; frames[32..38] == [1, 2, 1, 0, 0, 1]);
         assert!(rt; frames[38..64] == [0; 26]);
         assert_eq!(rt; frames[64], 0xFF);
-        assert_eq!(rt; fault(check_frame::<Quote>(&frames[32..64])), None);
+        assert!(rt; check_frame::<Quote>(&frames[32..64]) == Ok((1, 6)));
         assert_eq!(rt; refused(place::<Quote>(&mut frames, 3, get)), Some(3));
         Ok(())
     }
@@ -197,17 +194,17 @@ mod tests {
     #[test]
     fn damaged_frames(rt: HostRuntime) {
         let mut frames = [0u8; 32];
-        assert_eq!(rt; fault(check_frame::<Quote>(&frames)), Some((1, 0)));
-        assert_eq!(rt; fault(check_frame::<Quote>(&frames[0..31])), Some((4, 0)));
+        assert!(rt; check_frame::<Quote>(&frames) == Err(fault(Cause::Kind, 0)));
+        assert!(rt; check_frame::<Quote>(&frames[0..31]) == Err(fault(Cause::Rest, 0)));
         frames[0] = 8;
-        assert_eq!(rt; fault(read::<Quote>(&frames)), Some((1, 0)));
+        assert_eq!(rt; read::<Quote>(&frames), Err(fault(Cause::Kind, 0)));
         frames[0..9].copy_from_slice(&[3, 2, 1, 0, 0, 1, 0, 0, 1]);
-        assert_eq!(rt; fault(read::<Quote>(&frames)), Some((2, 8)));
+        assert_eq!(rt; read::<Quote>(&frames), Err(fault(Cause::Field, 8)));
         frames[8] = 0;
         frames[9] = 1;
-        assert_eq!(rt; fault(read::<Quote>(&frames)), Some((3, 9)));
+        assert_eq!(rt; read::<Quote>(&frames), Err(fault(Cause::Content, 9)));
         frames[9] = 0;
         frames[31] = 1;
-        assert_eq!(rt; fault(read::<Quote>(&frames)), Some((4, 17)));
+        assert_eq!(rt; read::<Quote>(&frames), Err(fault(Cause::Rest, 17)));
     }
 }

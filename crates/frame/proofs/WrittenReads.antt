@@ -1,4 +1,4 @@
--- Reading what was written of a lawful message gives that message.
+-- Reading what was written of a lawful message gives that message; of any other, a fault.
 use Rattle.std.proofs.Common.{◌≡◌, ℕ, ◌<◌, ◌≤◌, true, List, length, drop, Ok, Option, refl, ap, arith}
 use Rattle.std.proofs.lemmas.List.{length-append, length-replicate}
 use Rattle.std.proofs.lemmas.Bool.Decides.{nat_tests}
@@ -64,7 +64,7 @@ module _ {C : Type 0} (width : ℕ) (meaning : C → List ℕ) (reads : List ℕ
   pub slot_reads_back : (message : Said) (slot : List ℕ) → fits width message ≡ true → WordsFit message → AllBytes slot → slot ≡ bytes_of message → ReadsBack width meaning reads message slot
   slot_reads_back message slot fitting small bytes same = record {
     lawful_is_read = λ lawful. rw same (written_reads_back message lawful);
-    nothing_else_is_read = λ other is.
+    only_lawful_is_read = λ other is.
         let alike = nothing_else_is_read width reads message other fitting small (rw (← same) is) in
         let (lawful, written) = answer_was_written width meaning reads laws slot (reading width reads slot) bytes refl other is in
         (rw (← alike) lawful, alike);

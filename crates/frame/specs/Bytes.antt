@@ -21,7 +21,7 @@ head_bytes kind head = kind_number kind ∷ head.receiver ∷ head.sender ∷ he
 abbrev pub tag_bytes : Tag → List ℕ
 tag_bytes tag = two_bytes tag.version ++ (tag.node ∷ [])
 
--- what frames without a copy, with one, and updates take of their slot
+-- what they take of their slot: get, get-ack, put-ack and freeze; put and held; update
 abbrev pub plain_bytes : FrameKind → Head → ℕ → List ℕ
 plain_bytes kind head operation = head_bytes kind head ++ two_bytes operation
 

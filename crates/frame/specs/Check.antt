@@ -10,15 +10,15 @@ use Rattle.frame.specs.Fields.{Test, byte_at, verdict, judged_runs, route_fields
 use Rattle.frame.specs.Kinds.{kind_number, kind_from}
 use Rattle.frame.specs.Limits.{slot_size}
 
--- the fields between kind and rest, in their order: of a frame without a copy,
+-- the fields between kind and rest, in their order: of get, get-ack, put-ack and freeze,
 abbrev pub plain_runs : List ℕ → List (List Test)
 plain_runs slot = route_fields slot ∷ number_operation_fields slot ∷ []
 
--- of one with a copy,
+-- of put and held,
 abbrev pub copy_runs : {C : Type 0} → ℕ → (List ℕ → Option C) → List ℕ → List (List Test)
 copy_runs width reads slot = route_fields slot ∷ number_operation_fields slot ∷ tag_fields slot 6 ∷ content_fields width reads slot 9 ∷ []
 
--- and of an update
+-- and of update
 abbrev pub update_runs : {C : Type 0} → ℕ → (List ℕ → Option C) → List ℕ → List (List Test)
 update_runs width reads slot =
     route_fields slot ∷ number_count_fields slot ∷ member_fields slot ∷ tag_fields slot 12 ∷ content_fields width reads slot 15 ∷ []

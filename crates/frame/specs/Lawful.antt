@@ -63,10 +63,10 @@ Lawful meaning (freeze head operation) = LawfulStart head operation
 Lawful meaning (held head operation tag content) = LawfulCopy meaning head operation tag content
 Lawful meaning (update head count members tag content) = LawfulUpdate meaning head count members tag content
 
--- How a slot reads that holds what was written of a message: as that message if it is lawful, else with a fault.
+-- How a slot is read that holds what was written of a message: as that message if it is lawful, else with a fault.
 pub record ReadsBack {C : Type 0} (width : ℕ) (meaning : C → List ℕ) (reads : List ℕ → Option C) (message : Said) (slot : List ℕ) : Type 0 where
   pub lawful_is_read : Lawful meaning message → reading width reads slot ≡ Ok message
-  pub nothing_else_is_read : (other : Said) → reading width reads slot ≡ Ok other → Lawful meaning message × (other ≡ message)
+  pub only_lawful_is_read : (other : Said) → reading width reads slot ≡ Ok other → Lawful meaning message × (other ≡ message)
 
 -- Whatever was read of a slot is lawful, and the slot holds what is written of it.
 abbrev pub LawfulAndWritten : {C : Type 0} → (C → List ℕ) → List ℕ → Result Said FrameFault → Type 0

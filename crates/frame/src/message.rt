@@ -5,7 +5,7 @@ ghost use Rattle.frame.specs.Messages.{says};
 
 use crate::kind::FrameKind;
 
-/// What every frame begins with: whom it goes to, whom it comes from, and the number of the configuration that it speaks of.
+/// What stands behind the kind in every frame: whom it goes to, whom it comes from, and the number of the configuration that it speaks of.
 #[derive(Clone, Copy, Debug, PartialEq, Eq)]
 pub struct Head {
     pub receiver: u8,

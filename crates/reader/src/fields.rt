@@ -1,5 +1,5 @@
 //! The fields of a frame, a function for each run of them; each answers the fault of the first that fails.
-//! A field that stands at several places is told by the slot and `at`, the place: the two are the list and the index of `slot[at]`.
+//! A field whose place differs between kinds of frame is given its place as `at`.
 ghost use Rattle.std.specs.Prelude.{◌≡◌, ◌+◌, ◌≤◌, ◌&&◌, ◌==◌, not, take, drop, if◌then◌else◌};
 ghost use Rattle.quorum.specs.Limits.{largest_group};
 ghost use Rattle.frame.specs.Fields.{judged, verdict, test, word_at, is_node, all_zero, among, node_suits};
@@ -120,7 +120,7 @@ fn node_suits(version: u16, node: u8) -> bool
     }
 }
 
-// A counted member is a node that is none of those before it, any other is 0. Written into the loop above, its step was not proved.
+// A counted member is a node that is none of those before it, any other is 0. A function of its own, since the step of the loop above was not proved with it written out.
 fn member_passes(member: u8, before: &[u8], counted: bool) -> bool
     ensures { result ≡ (if counted then is_node member && not (among member before.now) else member == 0) }
 {

@@ -67,7 +67,7 @@ pub(crate) fn show_frame(rt: &HostRuntime, slot: &[u8]) -> io::Result<()> {
     }
 }
 
-// The kind of the frame in a slot, and how many bytes it takes: the pair in which they are answered and shown.
+// The kind of the frame in a slot, and how many bytes it takes.
 fn frame_in(slot: &[u8]) -> Result<(FrameKind, usize), FrameFault> {
     let (_, length) = check::<Quote>(slot)?;
     let message = read::<Quote>(slot)?;

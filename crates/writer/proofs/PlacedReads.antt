@@ -1,4 +1,4 @@
--- What was placed of a lawful message is read back.
+-- What was placed is read back if it is lawful, else as a fault.
 use Rattle.std.proofs.Common.{◌≡◌, ℕ, ◌+◌, ◌-◌, ◌*◌, ◌<◌, true, List, take, Ok, Option, Result, arith}
 use borrow.Rule.Slice.PartMut.{put_mid}
 use Rattle.std.proofs.lemmas.List.{drop_at, drop-drop, take_at, length-take-le}
@@ -26,7 +26,7 @@ placed_so width table written slot message below fitting same =
     let size : slot * slot_size + slot_size - slot * slot_size ≡ slot_size = omega arith in
     rw (lt-ltb slot (slots table) below, fitting, same, size, drop-drop slot_size (slot * slot_size) table)
 
--- so the slot is read back as that message
+-- so the slot is read as `ReadsBack` says
 pub placed_reads_back : {C : Type 0} (width : ℕ) (meaning : C → List ℕ) (reads : List ℕ → Option C) → Laws width meaning reads → (table after : List ℕ) (slot : ℕ) (message : Said)
     (r : Result (Unit {0}) Refusal) → ◌≡◌ {A = Outcome} (r, after) (placed width table slot message) → WordsFit message → AllBytes after → r ≡ Ok tt → ReadsBack width meaning reads message (slot_of after slot)
 placed_reads_back width meaning reads laws table after slot message r is small bytes taken =

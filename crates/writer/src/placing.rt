@@ -1,9 +1,9 @@
 //! Puts a message into a slot of the frame table.
-ghost use Rattle.std.specs.Prelude.{◌≡◌, Ok};
+ghost use Rattle.std.specs.Prelude.{◌≡◌, ◌<◌, Ok};
 ghost use Rattle.frame.specs.Bytes.{fits, WordsFit};
-ghost use Rattle.frame.specs.Lawful.{ReadsBack};
+ghost use Rattle.frame.specs.Lawful.{Lawful, ReadsBack};
 ghost use Rattle.frame.specs.Messages.{says};
-ghost use Rattle.writer.specs.Table.{slot_of, placed};
+ghost use Rattle.writer.specs.Table.{slots, slot_of, placed};
 
 use crate::layout::write;
 use content::Content;
@@ -19,6 +19,7 @@ pub fn place<C: Content>(
     message: Message<'_>,
 ) -> Result<(), Refusal>
     ensures placed { (result, frames.new) ≡ placed C.width frames.old slot (says message.entry) }
+    ensures lawful_is_placed { slot < slots frames.old → Lawful C.meaning (says message.entry) → result ≡ Ok tt }
     ensures reads_back { result ≡ Ok tt → ReadsBack C.width C.meaning C.reads (says message.entry) (slot_of frames.new slot) }
 {
     if slot >= frames.len() / SLOT {
