@@ -7,6 +7,7 @@ use Rattle.curve.specs.Curve.{curve_read}
 use Rattle.frame.specs.declared.fault.Cause.TheVariants.{Kind, Field, Content, Rest}
 use Rattle.frame.specs.declared.fault.FrameFault.{FrameFault}
 use Rattle.frame.specs.declared.message.Head.{Head}
+use Rattle.frame.specs.declared.message.Tag.{Tag}
 use Rattle.frame.specs.Bytes.{bytes_of}
 use Rattle.frame.specs.Check.{checked}
 use Rattle.frame.specs.Faults.{fault}
@@ -15,15 +16,15 @@ use Rattle.writer.specs.Layout.{laid}
 use Rattle.writer.specs.Table.{placed}
 use Rattle.cases.specs.Examples.{bytes_500_510, bytes_of_curve}
 
--- from machine 1 to machine 2, in the first configuration
-abbrev pub from_1_to_2 : Head
-from_1_to_2 = record { receiver = 2; sender = 1; number = 0 }
+-- the bytes of a get with number 0 and operation 1, from machine 1 to machine 2 as all of these
+abbrev pub a_get : List ℕ
+a_get = 0x01 ∷ 0x02 ∷ 0x01 ∷ 0x00 ∷ 0x00 ∷ 0x01 ∷ replicate 26 0
 
--- the bytes of a put with the tag (1, 1) and the quote 500, 510
+-- of a put with the tag (1, 1) and the quote 500, 510
 abbrev pub a_put : List ℕ
 a_put = 0x03 ∷ 0x02 ∷ 0x01 ∷ 0x00 ∷ 0x00 ∷ 0x01 ∷ 0x00 ∷ 0x01 ∷ 0x01 ∷ (bytes_500_510 ++ replicate 15 0)
 
--- and of an update with number 1, members 2, 3, 4, and that tag and quote
+-- of an update with number 1, members 2, 3, 4, and that tag and quote
 abbrev pub an_update : List ℕ
 an_update =
     0x07 ∷ 0x02 ∷ 0x01 ∷ 0x01 ∷ 0x03 ∷ 0x02 ∷ 0x03 ∷ 0x04 ∷ 0x00 ∷ 0x00 ∷ 0x00 ∷ 0x00 ∷ 0x00 ∷ 0x01 ∷ 0x01 ∷ (bytes_500_510 ++ replicate 9 0)
@@ -32,9 +33,15 @@ an_update =
 abbrev pub a_curve_update : List ℕ
 a_curve_update = take 15 an_update ++ (bytes_of_curve ++ (0x00 ∷ []))
 
--- a get with number 0 and operation 1
-abbrev pub a_get : List ℕ
-a_get = 0x01 ∷ 0x02 ∷ 0x01 ∷ 0x00 ∷ 0x00 ∷ 0x01 ∷ replicate 26 0
+-- what they say: the head of get and put, the tag, an update
+abbrev pub from_1_to_2 : Head
+from_1_to_2 = record { receiver = 2; sender = 1; number = 0 }
+
+abbrev pub first_tag : Tag
+first_tag = record { version = 1; node = 1 }
+
+abbrev pub update_of : List ℕ → Said
+update_of content = update (record { receiver = 2; sender = 1; number = 1 }) 3 (2 ∷ 3 ∷ 4 ∷ 0 ∷ 0 ∷ 0 ∷ 0 ∷ []) first_tag content
 
 -- what checking answers where the content is a quote, and where it is a curve
 abbrev pub quote_checked : List ℕ → Result (ℕ × ℕ) FrameFault
@@ -43,15 +50,11 @@ quote_checked slot = checked 8 quote_read slot
 abbrev pub curve_checked : List ℕ → Result (ℕ × ℕ) FrameFault
 curve_checked slot = checked 16 curve_read slot
 
--- the message of an update with number 1 and members 2, 3, 4
-abbrev pub update_of : List ℕ → Said
-update_of content = update (record { receiver = 2; sender = 1; number = 1 }) 3 (2 ∷ 3 ∷ 4 ∷ 0 ∷ 0 ∷ 0 ∷ 0 ∷ []) (record { version = 1; node = 1 }) content
-
 pub record FrameExamples : Type 0 where
   -- Four frames: a get, a put and two updates; how they are written, and their kinds and lengths.
   pub get_written : bytes_of (get from_1_to_2 1) ≡ a_get
   pub get_checked : quote_checked a_get ≡ Ok (1, 6)
-  pub put_written : bytes_of (put from_1_to_2 1 (record { version = 1; node = 1 }) bytes_500_510) ≡ a_put
+  pub put_written : bytes_of (put from_1_to_2 1 first_tag bytes_500_510) ≡ a_put
   pub put_checked : quote_checked a_put ≡ Ok (3, 17)
   pub update_written : bytes_of (update_of bytes_500_510) ≡ an_update
   pub update_checked : quote_checked an_update ≡ Ok (7, 23)
@@ -99,5 +102,5 @@ pub record FrameExamples : Type 0 where
   pub update_content_before_rest : quote_checked (slice_set (slice_set an_update 31 1) 18 0xFF) ≡ Err (fault Content 15)
   -- Into a table of two slots nothing goes as a third, and a put with no content goes into none.
   pub third_of_two : placed 8 (replicate 64 0) 2 (get from_1_to_2 1) ≡ (Err NoSlot, replicate 64 0)
-  pub content_missing : placed 8 (replicate 64 0) 1 (put from_1_to_2 1 (record { version = 1; node = 1 }) []) ≡ (Err Unlawful, replicate 64 0)
+  pub content_missing : placed 8 (replicate 64 0) 1 (put from_1_to_2 1 first_tag []) ≡ (Err Unlawful, replicate 64 0)
   pub refused_with_3 : number NoSlot ≡ 3
