@@ -1,4 +1,4 @@
--- The answer and the table are what the definition says; so what was placed is read back.
+-- The answer and the table are what the definition says; so the slot is read as `ReadsBack` says.
 use Rattle.std.proofs.Common.{arith}
 use Rattle.content.proofs.Slices.{bytes_from_fits}
 use Rattle.frame.specs.Messages.{says}
