@@ -1,0 +1,6 @@
+pub mod Limits
+pub mod Refusals
+pub mod Meaning
+pub mod Laws
+pub mod Listed
+pub mod Runs
