@@ -1,5 +1,5 @@
 -- What every chooser keeps to when something is offered or worked.
-use Rattle.std.specs.Prelude.{◌≡◌, ℕ, ◌<◌, ◌≤◌, ◌⊎◌, slice_set, Option, Some, Ok, Err}
+use Rattle.std.specs.Prelude.{◌≡◌, ℕ, ◌<◌, ◌≤◌, ◌⊎◌, slice_set, Some, Ok, Err}
 use Rattle.chooser.specs.declared.refusal.ChooserRefusal.{ChooserRefusal}
 use Rattle.chooser.specs.declared.refusal.ChooserRefusal.TheVariants.{TooHigh, NotAllowed}
 use Rattle.chooser.specs.Limits.{numbers}

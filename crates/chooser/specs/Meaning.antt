@@ -1,5 +1,5 @@
 -- What a chooser means: for each number the offers made and at most one decision.
-use Rattle.std.specs.Prelude.{ℕ, Bool, ◌==◌, nat_lt, if◌then◌else◌, List, [], ◌∷◌, ◌++◌, length, get_or, slice_set, Option, Some, None, Result, Ok, Err}
+use Rattle.std.specs.Prelude.{ℕ, Bool, ◌==◌, nat_lt, if◌then◌else◌, List, [], ◌∷◌, ◌++◌, length, get_or, slice_set, Option, None, Result, Ok, Err}
 use Rattle.std.specs.List.{list_any}
 use Rattle.chooser.specs.declared.refusal.ChooserRefusal.{ChooserRefusal}
 use Rattle.chooser.specs.declared.refusal.ChooserRefusal.TheVariants.{TooHigh, Full}

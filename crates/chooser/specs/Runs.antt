@@ -1,9 +1,9 @@
 -- Runs of a chooser: calls made one after the other, each on what the one before left.
-use Rattle.std.specs.Prelude.{◌≡◌, ℕ, List, [], ◌∷◌, map, Option, Some}
+use Rattle.std.specs.Prelude.{◌≡◌, ℕ, true, List, [], ◌∷◌, map, Some}
 use Rattle.chooser.specs.declared.calls.Call.{Call}
 use Rattle.chooser.specs.declared.calls.Call.TheVariants.{Offer, Work}
 use Rattle.chooser.specs.declared.calls.Turn.{Turn}
-use Rattle.chooser.specs.Meaning.{Answer, Decisions, decision_at}
+use Rattle.chooser.specs.Meaning.{Answer, Decisions, OfferLists, decision_at, offers_at, one_of}
 
 -- what a call does to a chooser whose offering and working are these relations
 abbrev pub Does : {S : Type 0} → (S → ℕ → ℕ → Answer → S → Type 0) → (S → ℕ → ℕ → ℕ → ℕ → Answer → S → Type 0) → S → Call → Answer → S → Type 0
@@ -23,3 +23,7 @@ calls_of turns = map (λ (turn : Turn). turn.call) turns
 -- every decision that stands before stands after
 abbrev pub DecisionsStay : Decisions → Decisions → Type 0
 DecisionsStay before after = (number value : ℕ) → decision_at before number ≡ Some value → decision_at after number ≡ Some value
+
+-- every decision is one of the offers under its number
+abbrev pub DecidedIsOffered : Decisions → OfferLists → Type 0
+DecidedIsOffered decided lists = (number value : ℕ) → decision_at decided number ≡ Some value → one_of (offers_at lists number) value ≡ true

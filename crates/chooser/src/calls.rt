@@ -1,6 +1,6 @@
 //! Calls on a chooser as values, and many of them made one after the other.
 ghost use Rattle.std.specs.Prelude.{◌≡◌};
-ghost use Rattle.chooser.specs.Runs.{Does, Run, calls_of, DecisionsStay};
+ghost use Rattle.chooser.specs.Runs.{Does, Run, calls_of, DecisionsStay, DecidedIsOffered};
 
 use crate::{Chooser, ChooserRefusal};
 
@@ -8,9 +8,17 @@ use crate::{Chooser, ChooserRefusal};
 #[derive(Clone, Copy, Debug, PartialEq, Eq)]
 pub enum Call {
     /// offer a value under a number
-    Offer { number: u8, value: u8 },
+    Offer {
+        number: u8,
+        value: u8,
+    },
     /// a step of work on a ballot of a number, for a set of acceptors
-    Work { number: u8, step: u8, ballot: u8, set: u8 },
+    Work {
+        number: u8,
+        step: u8,
+        ballot: u8,
+        set: u8,
+    },
 }
 
 /// A call and its answer, none before it is made.
@@ -24,6 +32,7 @@ pub struct Turn {
 pub fn make<S: Chooser>(chooser: &mut S, call: Call) -> Result<(), ChooserRefusal>
     ensures does { Does S.offering S.working chooser.old call result chooser.new }
     ensures decisions_stay { DecisionsStay (S.decided chooser.old) (S.decided chooser.new) }
+    ensures decided_is_offered { DecidedIsOffered (S.decided chooser.new) (S.offers chooser.new) }
 {
     match call {
         Call::Offer { number, value } => chooser.offer(number, value),
@@ -41,6 +50,7 @@ pub fn play<S: Chooser>(chooser: &mut S, turns: &mut [Turn])
     ensures run { Run S.offering S.working chooser.old turns.new chooser.new }
     ensures same_calls { calls_of turns.new ≡ calls_of turns.old }
     ensures decisions_stay { DecisionsStay (S.decided chooser.old) (S.decided chooser.new) }
+    ensures decided_is_offered { DecidedIsOffered (S.decided chooser.new) (S.offers chooser.new) }
 {
     for turn in turns.iter_mut() {
         turn.answer = Some(make(chooser, turn.call));

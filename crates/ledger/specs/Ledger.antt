@@ -1,0 +1,30 @@
+-- What the ledger does, exactly. It keeps offers alone: the first under a number is the decision.
+use Rattle.std.specs.Prelude.{◌≡◌, ℕ, nat_lt, if◌then◌else◌, List, [], ◌∷◌, map, Option, Some, None, Err}
+use Rattle.chooser.specs.declared.refusal.ChooserRefusal.TheVariants.{TooHigh, NotAllowed}
+use Rattle.chooser.specs.Limits.{numbers}
+use Rattle.chooser.specs.Meaning.{OfferLists, Decisions, Answer, offer_answer, lists_with}
+use Rattle.chooser.specs.Listed.{listed}
+use Rattle.ledger.specs.declared.ledger.Ledger.{Ledger}
+
+-- the offers of a ledger
+abbrev pub lists_of : Ledger → OfferLists
+lists_of ledger = map listed ledger.offers
+
+-- the first offer
+abbrev pub first_of : List ℕ → Option ℕ
+first_of [] = None
+first_of (offer ∷ later) = Some offer
+
+-- what is decided under each number: the first offer
+abbrev pub firsts : OfferLists → Decisions
+firsts lists = map first_of lists
+
+-- an offer: answered as offers are, and appended if it was taken
+pub record LedgerOffered (lists : OfferLists) (number value : ℕ) (answer : Answer) (after : OfferLists) : Type 0 where
+  pub answered : answer ≡ offer_answer lists number
+  pub appended : after ≡ lists_with (offer_answer lists number) lists number value
+
+-- work: always refused
+pub record LedgerWorked (lists : OfferLists) (number : ℕ) (answer : Answer) (after : OfferLists) : Type 0 where
+  pub answered : answer ≡ (if nat_lt number numbers then Err NotAllowed else Err TooHigh)
+  pub offers_stay : after ≡ lists
