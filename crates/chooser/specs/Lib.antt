@@ -3,4 +3,5 @@ pub mod Refusals
 pub mod Meaning
 pub mod Laws
 pub mod Listed
+pub mod Deciding
 pub mod Runs

@@ -27,7 +27,7 @@ impl Ledger {
 
 impl Chooser for Ledger {
     ghost use Rattle.ledger.specs.Ledger.{lists_of, firsts, LedgerOffered, LedgerWorked};
-    ghost use Rattle.ledger.specs.LedgerLaws.{sixteen_firsts, sixteen_lists_stand, eight_at_most_stand, bytes_stand, first_is_offered, offering_keeps_laws, working_keeps_laws};
+    ghost use Rattle.ledger.specs.LedgerLaws.{sixteen_firsts, sixteen_lists as lists_stand, eight_at_most as eight_stand, offers_are_bytes as bytes_stand, first_is_offered, offering_is_lawful as offering_keeps, working_is_lawful as working_keeps};
 
     ghost decided = { λ ledger. firsts (lists_of ledger) };
 
@@ -39,17 +39,17 @@ impl Chooser for Ledger {
 
     ghost sixteen_decisions = { sixteen_firsts };
 
-    ghost sixteen_lists = { sixteen_lists_stand };
+    ghost sixteen_lists = { lists_stand };
 
-    ghost eight_at_most = { eight_at_most_stand };
+    ghost eight_at_most = { eight_stand };
 
     ghost offers_are_bytes = { bytes_stand };
 
-    ghost decided_is_offered = { λ ledger. first_is_offered (lists_of ledger) };
+    ghost decided_is_offered = { first_is_offered };
 
-    ghost offering_is_lawful = { λ before after. offering_keeps_laws before (lists_of after) };
+    ghost offering_is_lawful = { λ before after number value answer. offering_keeps before number value answer (lists_of after) };
 
-    ghost working_is_lawful = { λ before after. working_keeps_laws (lists_of before) (lists_of after) };
+    ghost working_is_lawful = { λ before after number step ballot set. working_keeps (lists_of before) (lists_of after) number };
 
     fn decision(&self, number: u8) -> Option<u8> {
         if number >= NUMBERS {
@@ -62,7 +62,11 @@ impl Chooser for Ledger {
         if number >= NUMBERS {
             return Err(ChooserRefusal::TooHigh);
         }
-        self.offers[usize::from(number)].add(value)
+        let at = usize::from(number);
+        let mut offers = self.offers[at];
+        offers.add(value)?;
+        self.offers[at] = offers;
+        Ok(())
     }
 
     fn work(
