@@ -1,11 +1,11 @@
 -- How a chooser shows that it keeps to the rules; a reader need not believe this file.
-use Rattle.std.specs.Prelude.{◌≡◌, ℕ, zero, suc, ◌<◌, ◌≤◌, true, List, [], ◌∷◌, length, map, take, slice_set, slice_index, Option, None, Some, Ok, refl}
+use Rattle.std.specs.Prelude.{◌≡◌, ℕ, zero, suc, ◌<◌, ◌≤◌, true, List, [], ◌∷◌, ◌++◌, length, map, take, slice_set, slice_index, slice_index_or, Option, None, Some, Ok, refl}
 use Rattle.std.proofs.Common.{sym, ap, ◌∙◌, arith}
-use Rattle.std.proofs.lemmas.List.{set-get_or, get_or-set_same, length-take}
+use Rattle.std.proofs.lemmas.List.{set-get_or, get_or-set_same, length-take, get_or-map, map-set}
 use Rattle.std.proofs.lemmas.Bool.Decides.{nat_tests}
 use Rattle.chooser.specs.declared.offers.Offers.{Offers}
-use Rattle.chooser.specs.Limits.{most_offers, highest_offer}
-use Rattle.chooser.specs.Meaning.{Decisions, Answer, offers_at, decision_at, one_of}
+use Rattle.chooser.specs.Limits.{numbers, most_offers, highest_offer}
+use Rattle.chooser.specs.Meaning.{Decisions, Answer, offers_at, decision_at, one_of, offer_answer, offer_taken, lists_with}
 use Rattle.chooser.specs.Laws.{Deciding}
 use Rattle.chooser.specs.Listed.{listed}
 
@@ -50,3 +50,21 @@ bytes_among (byte ∷ values) (suc count) value bytes among =
 
 pub listed_bytes : (offers : Offers) (value : ℕ) → one_of (listed offers) value ≡ true → value ≤ highest_offer
 listed_bytes offers value among = bytes_among offers.values offers.count value offers.bytes among
+
+-- An offer is taken at a number as it is among the offers there.
+pub answered_at : (offers : List Offers) (number : ℕ) (other : Offers) → number < length offers → length offers ≡ numbers
+    → offer_answer (map listed offers) number ≡ offer_taken (listed (slice_index_or offers number other))
+answered_at offers number other inside sixteen =
+    let here = get_or-map listed offers number other [] inside in
+    let below : number < numbers = omega arith in
+    rw here (grind (arith, nat_tests))
+
+-- Where the offers at a number become some with one more, so do all offers.
+pub appended_at : (offers : List Offers) (number value : ℕ) (more other : Offers) → number < length offers → length offers ≡ numbers
+    → offer_taken (listed (slice_index_or offers number other)) ≡ Ok tt
+    → listed more ≡ listed (slice_index_or offers number other) ++ (value ∷ [])
+    → map listed (slice_set offers number more) ≡ lists_with (offer_answer (map listed offers) number) (map listed offers) number value
+appended_at offers number value more other inside sixteen taken is =
+    let here = get_or-map listed offers number other [] inside in
+    let answer : offer_answer (map listed offers) number ≡ Ok tt = answered_at offers number other inside sixteen ∙ taken in
+    rw (answer, here) (map-set listed offers number more ∙ ap (slice_set (map listed offers) number) is)

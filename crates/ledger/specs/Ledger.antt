@@ -1,5 +1,5 @@
 -- What the ledger does, exactly. It keeps offers alone: the first under a number is the decision.
-use Rattle.std.specs.Prelude.{◌≡◌, ℕ, nat_lt, if◌then◌else◌, List, [], ◌∷◌, map, Option, Some, None, Err}
+use Rattle.std.specs.Prelude.{◌≡◌, ℕ, nat_lt, if◌then◌else◌, List, map, slice_get, Option, Err}
 use Rattle.chooser.specs.declared.refusal.ChooserRefusal.TheVariants.{TooHigh, NotAllowed}
 use Rattle.chooser.specs.Limits.{numbers}
 use Rattle.chooser.specs.Meaning.{OfferLists, Decisions, Answer, offer_answer, lists_with}
@@ -12,8 +12,7 @@ lists_of ledger = map listed ledger.offers
 
 -- the first offer
 abbrev pub first_of : List ℕ → Option ℕ
-first_of [] = None
-first_of (offer ∷ later) = Some offer
+first_of offers = slice_get offers 0
 
 -- what is decided under each number: the first offer
 abbrev pub firsts : OfferLists → Decisions

@@ -1,15 +1,15 @@
 -- The ledger keeps the laws of choosers.
-use Rattle.std.specs.Prelude.{◌≡◌, ℕ, zero, suc, ◌<◌, ◌≤◌, true, List, [], ◌∷◌, ◌++◌, length, map, Option, None, Some, Result, Ok, Err, refl}
+use Rattle.std.specs.Prelude.{◌≡◌, ℕ, zero, suc, ◌<◌, ◌≤◌, true, List, [], ◌∷◌, ◌++◌, length, map, slice_index_or, slice_set, Option, None, Some, Result, Ok, Err, refl}
 use Rattle.std.proofs.Common.{sym, ap, ◌∙◌, inr, arith}
-use Rattle.std.proofs.Math.ListN.{get_or-map}
-use Rattle.std.proofs.lemmas.List.{length-map, map-set, get_or-set_same}
+use Rattle.std.proofs.lemmas.List.{length-map, map-set, get_or-map, get_or-set_same}
 use Rattle.std.proofs.lemmas.Bool.Decides.{nat_tests}
 use Rattle.chooser.specs.declared.refusal.ChooserRefusal.TheVariants.{TooHigh, NotAllowed}
 use Rattle.chooser.specs.Limits.{numbers, most_offers, highest_offer}
-use Rattle.chooser.specs.Meaning.{OfferLists, Answer, offers_at, decision_at, one_of, offer_answer, lists_with}
+use Rattle.chooser.specs.Meaning.{OfferLists, Answer, offers_at, decision_at, one_of, offer_answer, offer_taken, lists_with}
 use Rattle.chooser.specs.Laws.{Deciding, Offered, Worked}
 use Rattle.chooser.specs.Listed.{listed}
-use Rattle.chooser.specs.Deciding.{nothing_decided, one_decided, under_each, listed_few, listed_bytes}
+use Rattle.chooser.specs.Deciding.{nothing_decided, one_decided, answered_at, appended_at, under_each, listed_few, listed_bytes}
+use Rattle.chooser.specs.declared.offers.Offers.{Offers}
 use Rattle.ledger.specs.declared.ledger.Ledger.{Ledger}
 use Rattle.ledger.specs.Ledger.{lists_of, first_of, firsts, LedgerOffered, LedgerWorked}
 
@@ -28,7 +28,13 @@ offers_are_bytes ledger number =
 
 -- the decision under a number is the first of its offers
 first_at : (lists : OfferLists) (number : ℕ) → decision_at (firsts lists) number ≡ first_of (offers_at lists number)
-first_at lists number = get_or-map first_of lists number []
+first_at [] number = refl
+first_at (offers ∷ lists) zero = refl
+first_at (offers ∷ lists) (suc number) = first_at lists number
+
+-- so it is the first of the offers that lie at the number
+pub decided_at : (ledger : Ledger) (number : ℕ) (other : Offers) → number < numbers → decision_at (firsts (lists_of ledger)) number ≡ first_of (listed (slice_index_or ledger.offers number other))
+decided_at ledger number other inside = first_at (lists_of ledger) number ∙ ap first_of (get_or-map listed ledger.offers number other [] (omega (arith, ledger.sixteen)))
 
 first_among : (offers : List ℕ) (value : ℕ) → first_of offers ≡ Some value → one_of offers value ≡ true
 first_among [] value is = absurd cc
@@ -71,3 +77,14 @@ working_is_lawful lists after number answer worked =
       offers_stay = refl;
       deciding = nothing_decided (firsts lists) number answer;
     })
+
+-- what becomes of a ledger whose offers at the number get one more
+pub offered_at : (offers : List Offers) (number value : ℕ) (more other : Offers) → number < numbers → length offers ≡ numbers
+    → offer_taken (listed (slice_index_or offers number other)) ≡ Ok tt
+    → listed more ≡ listed (slice_index_or offers number other) ++ (value ∷ [])
+    → LedgerOffered (map listed offers) number value (Ok tt) (map listed (slice_set offers number more))
+offered_at offers number value more other inside sixteen taken is =
+    record {
+      answered = sym (answered_at offers number other (omega arith) sixteen ∙ taken);
+      appended = appended_at offers number value more other (omega arith) sixteen taken is;
+    }

@@ -51,6 +51,7 @@ impl Chooser for Ledger {
 
     ghost working_is_lawful = { λ before after number step ballot set. working_keeps (lists_of before) (lists_of after) number };
 
+    #[tactic(auto, using(crate::specs::LedgerLaws::decided_at))]
     fn decision(&self, number: u8) -> Option<u8> {
         if number >= NUMBERS {
             return None;
