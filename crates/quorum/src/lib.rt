@@ -13,6 +13,7 @@ mod weights;
 
 pub use any::{both_win_apart, everyone_wins};
 pub use majority::Majority;
+pub use sets::member;
 pub use weighted::Weighted;
 
 /// The most members of a group.

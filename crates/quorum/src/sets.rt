@@ -5,6 +5,9 @@ ghost use Rattle.quorum.specs.Sets.{in_bounds, everyone as all_places, member};
 
 use crate::LARGEST_GROUP;
 
+// How many places a set can have.
+const SET_BITS: usize = 8;
+
 // Whether the size is 1 to 7 and the set has only places below it.
 pub(crate) fn in_bounds(size: u8, set: u8) -> bool
     ensures { result ≡ in_bounds size set }
@@ -20,10 +23,9 @@ pub(crate) fn everyone(size: u8) -> u8
     (1 << size) - 1
 }
 
-// Whether the place is in the set.
-pub(crate) fn member(place: usize, set: u8) -> bool
-    requires { place < largest_group }
+/// Whether the place is in the set: `member(1, 0b010)` is true.
+pub fn member(place: usize, set: u8) -> bool
     ensures { result ≡ member place set }
 {
-    (set >> place) & 1 == 1
+    place < SET_BITS && (set >> place) & 1 == 1
 }

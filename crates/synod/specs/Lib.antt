@@ -1,0 +1,4 @@
+pub mod Board
+pub mod Safety
+pub mod Instance
+pub mod Kept

@@ -1,0 +1,11 @@
+//! The chooser that decides by ballots among five acceptors, an instance of Paxos for each number.
+#![tactic(auto)]
+
+mod instance;
+mod sets;
+
+/// How many acceptors each number has.
+pub const ACCEPTORS: usize = 5;
+
+/// The highest ballot; the lowest is 1.
+pub const LAST_BALLOT: u8 = 15;
