@@ -1,5 +1,5 @@
 -- What is kept under one number, and what work does to it, exactly.
-use Rattle.std.specs.Prelude.{ℕ, ◌+◌, max, Bool, not, ◌&&◌, ◌==◌, nat_lt, nat_le, if◌then◌else◌, List, length, replicate, filter, slice_get, slice_set, get_or, Option, Some, None, is_some, Ok, Err}
+use Rattle.std.specs.Prelude.{ℕ, ◌+◌, ◌^◌, max, Bool, not, ◌&&◌, ◌==◌, nat_lt, nat_le, if◌then◌else◌, List, length, replicate, filter, slice_get, slice_set, get_or, Option, Some, None, is_some, Ok, Err}
 use Rattle.std.specs.List.{enumerate_from, list_all, fold}
 use Rattle.chooser.specs.declared.refusal.ChooserRefusal.TheVariants.{NotAllowed}
 use Rattle.chooser.specs.Meaning.{Answer}
@@ -8,9 +8,13 @@ use Rattle.synod.specs.declared.instance.Acceptor.{Acceptor}
 use Rattle.synod.specs.declared.instance.Instance.{Instance}
 use Rattle.synod.specs.Board.{acceptors, owner}
 
--- the ballots are 1 to 15
+-- the highest ballot
 abbrev pub last_ballot : ℕ
 last_ballot = 15
+
+-- ballots are 1 to 15, and a set has no other places than those of the acceptors
+abbrev pub within : ℕ → ℕ → Bool
+within ballot set = nat_le 1 ballot && (nat_le ballot last_ballot && nat_lt set (2 ^ acceptors))
 
 -- an acceptor that has promised and accepted nothing
 abbrev pub fresh : Acceptor

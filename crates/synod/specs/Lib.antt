@@ -2,3 +2,8 @@ pub mod Board
 pub mod Safety
 pub mod Instance
 pub mod Kept
+pub mod KeptLaws
+pub mod Invariant
+pub mod Meeting
+pub mod Synod
+pub mod SynodLaws

@@ -1,7 +1,7 @@
 //! What is kept under one number, and the four steps that change it.
 ghost use Rattle.std.specs.Prelude.{◌≡◌, ◌<◌};
 ghost use Rattle.synod.specs.Board.{owner};
-ghost use Rattle.synod.specs.Instance.{blank, highest_accepted, value_for, all_promised, all_accepted, promise_step, fix_step, accept_step, count_step, work_step, answer_of, or_same};
+ghost use Rattle.synod.specs.Instance.{blank, value_at, highest_accepted, value_for, all_promised, all_accepted, promise_step, fix_step, accept_step, count_step, work_step, answer_of, or_same};
 
 use crate::sets::sole;
 use crate::{ACCEPTORS, LAST_BALLOT};
@@ -37,6 +37,20 @@ impl Instance {
             values: [None; LAST_BALLOT as usize + 1],
             decision: None,
         }
+    }
+
+    /// What is decided.
+    pub(crate) fn decision(&self) -> Option<u8>
+        ensures { result ≡ self.now.decision }
+    {
+        self.decision
+    }
+
+    /// The value of a ballot, if it is fixed.
+    pub(crate) fn value(&self, ballot: u8) -> Option<u8>
+        ensures { result ≡ value_at self.now ballot }
+    {
+        self.values.get(usize::from(ballot)).copied().flatten()
     }
 
     /// A step of work on a ballot; `wins` says whether the set does.
@@ -127,7 +141,7 @@ impl Instance {
         if highest == 0 {
             offers.get(owner(ballot)).copied()
         } else {
-            self.values.get(usize::from(highest)).copied().flatten()
+            self.value(highest)
         }
     }
 

@@ -3,6 +3,9 @@
 
 mod instance;
 mod sets;
+mod synod;
+
+pub use synod::Synod;
 
 /// How many acceptors each number has.
 pub const ACCEPTORS: usize = 5;

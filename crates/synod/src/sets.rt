@@ -1,6 +1,15 @@
-//! Sets of acceptors.
+//! Ballots and sets of acceptors.
 ghost use Rattle.std.specs.Prelude.{◌≡◌};
-ghost use Rattle.synod.specs.Instance.{sole};
+ghost use Rattle.synod.specs.Instance.{sole, within};
+
+use crate::{ACCEPTORS, LAST_BALLOT};
+
+// Whether there is such a ballot and such a set.
+pub(crate) fn within(ballot: u8, set: u8) -> bool
+    ensures { result ≡ within ballot set }
+{
+    (1..=LAST_BALLOT).contains(&ballot) && set < 1 << ACCEPTORS
+}
 
 // The acceptor of a set that has only one.
 pub(crate) fn sole(set: u8) -> Option<usize>

@@ -1,0 +1,25 @@
+use Rattle.std.proofs.Common.{◌≡◌, true, map, refl, subst, sym, ap, ◌∙◌, arith, length, replicate}
+use Rattle.std.specs.List.{range_with_len}
+use Rattle.std.proofs.lemmas.List.FromFn.{length-map-range_with_len}
+use Rattle.chooser.specs.Limits.{numbers}
+use Rattle.chooser.specs.Listed.{listed}
+use Rattle.quorum.specs.Sets.{everyone}
+use Rattle.synod.specs.Board.{acceptors}
+use Rattle.synod.specs.Invariant.{won, AllKept}
+use Rattle.synod.proofs.Start.{start_never_apart, start_all_kept}
+use Rattle.synod.proofs.synod.Synod.new.Goals as goal
+
+-- the rule's laws are those of its answers
+pub invariant_of-result : goal.invariant_of-result
+invariant_of-result g c =
+    let rule = c.args.rule.now in
+    let winning = g.Q.QuorumRule.winning rule acceptors in
+    let asked : c.answers.result ≡ map winning (range_with_len 0 32) = c.answers.ensures in
+    record {
+      all_sets = ap length asked ∙ length-map-range_with_len winning 0 32;
+      never_apart = rw asked (start_never_apart winning (λ a b a_wins b_wins. g.met.Q.QuorumRule.winners_meet rule acceptors a b a_wins b_wins));
+      everyone_wins = ap (λ wins. won wins (everyone acceptors)) asked ∙ g.met.Q.QuorumRule.everyone_wins rule acceptors (omega arith) (omega arith);
+      sixteen_lists = refl;
+      sixteen_instances = refl;
+      all_kept = subst (λ x. AllKept (won c.answers.result) (won c.answers.result) (map listed (replicate numbers c.new.result)) (replicate numbers x)) (sym c.new-2.ensures) (start_all_kept (won c.answers.result) (won c.answers.result) c.new.result c.new.ensures);
+    }

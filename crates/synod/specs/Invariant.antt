@@ -1,0 +1,29 @@
+-- What a synod keeps at all times. A reader need not believe it: it is what the proof that no two values are ever decided rests on.
+use Rattle.std.specs.Prelude.{◌≡◌, ℕ, ◌<◌, Bool, true, false, List, [], None, get_or}
+use Rattle.chooser.specs.Limits.{numbers}
+use Rattle.chooser.specs.Meaning.{OfferLists, offers_at}
+use Rattle.quorum.specs.Sets.{Share}
+use Rattle.synod.specs.declared.instance.Instance.{Instance}
+use Rattle.synod.specs.Board.{acceptors}
+use Rattle.synod.specs.Kept.{Kept}
+
+-- the rule's answer for a set
+abbrev pub won : List Bool → ℕ → Bool
+won wins set = get_or wins set false
+
+-- where there is no number there is no instance
+abbrev pub no_instance : Instance
+no_instance = record { acceptors = []; values = []; decision = None }
+
+-- the instance of a number
+abbrev pub instance_at : List Instance → ℕ → Instance
+instance_at instances number = get_or instances number no_instance
+
+-- no fixing set and no counting set are apart
+abbrev pub NeverApart : (ℕ → Bool) → (ℕ → Bool) → Type 0
+NeverApart fixing counting = (f c : ℕ) → fixing f ≡ true → counting c ≡ true → (Share acceptors f c → ⊥) → ⊥
+
+-- each number's instance is kept
+abbrev pub AllKept : (ℕ → Bool) → (ℕ → Bool) → OfferLists → List Instance → Type 0
+AllKept fixing counting lists instances =
+    (number : ℕ) → number < numbers → ∥ Kept fixing counting (offers_at lists number) (instance_at instances number) ∥₁

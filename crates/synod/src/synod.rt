@@ -1,0 +1,128 @@
+//! The synod.
+ghost use Rattle.std.specs.Prelude.{◌≡◌, ◌^◌, true, length, map};
+ghost use Rattle.std.specs.List.{range_with_len};
+ghost use Rattle.chooser.specs.Limits.{numbers};
+ghost use Rattle.chooser.specs.Listed.{listed};
+ghost use Rattle.quorum.specs.Sets.{everyone as all_places};
+ghost use Rattle.synod.specs.Board.{acceptors};
+ghost use Rattle.synod.specs.Invariant.{won, NeverApart, AllKept};
+
+use crate::instance::Instance;
+use crate::ACCEPTORS;
+use crate::sets::within;
+use chooser::{Chooser, ChooserRefusal, NUMBERS, Offers};
+use quorum::QuorumRule;
+
+/// A value under a number is decided once a winning set of the number's five acceptors has accepted one ballot last.
+#[derive(Clone, Copy, Debug, PartialEq, Eq)]
+pub struct Synod {
+    wins: [bool; 1 << ACCEPTORS],
+    offers: [Offers; NUMBERS as usize],
+    instances: [Instance; NUMBERS as usize],
+    ghost all_sets: { length wins ≡ 2 ^ acceptors },
+    ghost never_apart: { NeverApart (won wins) (won wins) },
+    ghost everyone_wins: { won wins (all_places acceptors) ≡ true },
+    ghost sixteen_lists: { length offers ≡ numbers },
+    ghost sixteen_instances: { length instances ≡ numbers },
+    ghost all_kept: { AllKept (won wins) (won wins) (map listed offers) instances },
+}
+
+impl Synod {
+    ghost use Rattle.std.specs.Prelude.{[], replicate};
+    ghost use Rattle.synod.specs.Instance.{blank};
+    ghost use Rattle.synod.specs.Synod.{lists_of, ballot_value};
+
+    /// A synod by this rule, which is asked about each set of five now and never again.
+    pub fn new<Q: QuorumRule>(rule: &Q) -> Synod
+        ensures asked { result.wins ≡ map (Q.winning rule.now acceptors) (range_with_len 0 (2 ^ acceptors)) }
+        ensures nothing_offered { lists_of result ≡ replicate numbers [] }
+        ensures blank { result.instances ≡ replicate numbers blank }
+    {
+        Synod {
+            wins: answers(rule),
+            offers: [Offers::new(); NUMBERS as usize],
+            instances: [Instance::new(); NUMBERS as usize],
+        }
+    }
+
+    /// The value of a ballot of a number, if it is fixed.
+    pub fn value(&self, number: u8, ballot: u8) -> Option<u8>
+        ensures { result ≡ ballot_value self.now number ballot }
+    {
+        self.instances.get(usize::from(number))?.value(ballot)
+    }
+}
+
+impl Chooser for Synod {
+    ghost use Rattle.synod.specs.Synod.{lists_of, decisions_of, SynodOffered, SynodWorked};
+    ghost use Rattle.synod.specs.SynodLaws.{sixteen_decisions as decisions_stand, sixteen_lists as lists_stand, eight_at_most as eight_stand, offers_are_bytes as bytes_stand, decided_is_offered as decided_among, offering_is_lawful as offering_keeps, working_is_lawful as working_keeps};
+
+    ghost decided = { λ synod. decisions_of synod.instances };
+
+    ghost offers = { lists_of };
+
+    ghost offering = { SynodOffered };
+
+    ghost working = { SynodWorked };
+
+    ghost sixteen_decisions = { decisions_stand };
+
+    ghost sixteen_lists = { lists_stand };
+
+    ghost eight_at_most = { eight_stand };
+
+    ghost offers_are_bytes = { bytes_stand };
+
+    ghost decided_is_offered = { decided_among };
+
+    ghost offering_is_lawful = { offering_keeps };
+
+    ghost working_is_lawful = { working_keeps };
+
+    fn decision(&self, number: u8) -> Option<u8> {
+        if number >= NUMBERS {
+            return None;
+        }
+        self.instances[usize::from(number)].decision()
+    }
+
+    fn offer(&mut self, number: u8, value: u8) -> Result<(), ChooserRefusal> {
+        if number >= NUMBERS {
+            return Err(ChooserRefusal::TooHigh);
+        }
+        let at = usize::from(number);
+        let mut offers = self.offers[at];
+        offers.add(value)?;
+        self.offers[at] = offers;
+        Ok(())
+    }
+
+    fn work(
+        &mut self,
+        number: u8,
+        step: u8,
+        ballot: u8,
+        set: u8,
+    ) -> Result<(), ChooserRefusal> {
+        if number >= NUMBERS {
+            return Err(ChooserRefusal::TooHigh);
+        }
+        if !within(ballot, set) {
+            return Err(ChooserRefusal::NotAllowed);
+        }
+        let wins = self.wins[usize::from(set)];
+        let offers = self.offers[usize::from(number)];
+        self.instances[usize::from(number)].work(step, ballot, set, wins, offers.as_slice())
+    }
+}
+
+// The rule's answers for the 32 sets of five.
+fn answers<Q: QuorumRule>(rule: &Q) -> [bool; 1 << ACCEPTORS]
+    ensures { result ≡ map (Q.winning rule.now acceptors) (range_with_len 0 (2 ^ acceptors)) }
+{
+    let mut wins = [false; 1 << ACCEPTORS];
+    for set in 0..1 << ACCEPTORS {
+        wins[usize::from(set)] = rule.wins(ACCEPTORS as u8, set);
+    }
+    wins
+}
