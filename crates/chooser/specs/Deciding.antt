@@ -1,13 +1,15 @@
 -- How a chooser shows that it keeps to the rules; a reader need not believe this file.
 use Rattle.std.specs.Prelude.{◌≡◌, ℕ, zero, suc, ◌<◌, ◌≤◌, true, List, [], ◌∷◌, ◌++◌, length, map, take, slice_set, slice_index, slice_index_or, Option, None, Some, Ok, refl}
-use Rattle.std.proofs.Common.{sym, ap, ◌∙◌, arith}
-use Rattle.std.proofs.lemmas.List.{set-get_or, get_or-set_same, length-take, get_or-map, map-set}
+use Rattle.std.proofs.Common.{sym, ap, ◌∙◌, ⊎_elim, arith}
+use Rattle.std.proofs.lemmas.List.{set-get_or, get_or-set_same, get_or-set_other, length-take, get_or-map, map-set}
+use Rattle.std.proofs.lemmas.Bool.{cases_eq}
 use Rattle.std.proofs.lemmas.Bool.Decides.{nat_tests}
 use Rattle.chooser.specs.declared.offers.Offers.{Offers}
 use Rattle.chooser.specs.Limits.{numbers, most_offers, highest_offer}
 use Rattle.chooser.specs.Meaning.{Decisions, Answer, offers_at, decision_at, one_of, offer_answer, offer_taken, lists_with}
 use Rattle.chooser.specs.Laws.{Deciding}
 use Rattle.chooser.specs.Listed.{listed}
+use Rattle.chooser.specs.Runs.{DecisionsStay}
 
 -- where no decision changes
 pub nothing_decided : (decided : Decisions) (number : ℕ) (answer : Answer) → Deciding decided number answer decided
@@ -68,3 +70,11 @@ appended_at offers number value more other inside sixteen taken is =
     let here = get_or-map listed offers number other [] inside in
     let answer : offer_answer (map listed offers) number ≡ Ok tt = answered_at offers number other inside sixteen ∙ taken in
     rw (answer, here) (map-set listed offers number more ∙ ap (slice_set (map listed offers) number) is)
+
+-- what stands under any number stays
+pub deciding_stays : (before after : Decisions) (number : ℕ) (answer : Answer) → Deciding before number answer after → DecisionsStay before after
+deciding_stays before after number answer deciding other value stands =
+    ⊎_elim
+    (λ same. rw same (deciding.decision_stays value (rw same at stands)))
+    (λ apart. ap (λ decided. decision_at decided other) deciding.own_number_only ∙ get_or-set_other before number other (decision_at after number) None apart ∙ stands)
+    (cases_eq other number)

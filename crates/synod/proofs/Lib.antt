@@ -1,2 +1,3 @@
 pub mod Changes
+pub mod RunLaws
 pub mod Start

@@ -7,3 +7,4 @@ pub mod Invariant
 pub mod Meeting
 pub mod Synod
 pub mod SynodLaws
+pub mod Ballots

@@ -35,7 +35,7 @@ offers_are_bytes synod number =
     under_each listed (λ offers. (value : ℕ) → one_of offers value ≡ true → value ≤ highest_offer) (λ value among. absurd (grind arith)) listed_bytes synod.offers number
 
 -- the decision under a number is that of its instance
-decision_is : (instances : List Instance) (number : ℕ) → decision_at (decisions_of instances) number ≡ (instance_at instances number).decision
+pub decision_is : (instances : List Instance) (number : ℕ) → decision_at (decisions_of instances) number ≡ (instance_at instances number).decision
 decision_is [] number = refl
 decision_is (x ∷ xs) zero = refl
 decision_is (x ∷ xs) (suc number) = decision_is xs number
@@ -75,7 +75,7 @@ worked_is wins lists instances number step ballot set y is =
 pub below : {A : Type 0} (number : ℕ) (a b : A) → number < numbers → (if nat_lt number numbers then a else b) ≡ a
 below number a b inside = grind (arith, nat_tests)
 
-above : {A : Type 0} (number : ℕ) (a b : A) → numbers ≤ number → (if nat_lt number numbers then a else b) ≡ b
+pub above : {A : Type 0} (number : ℕ) (a b : A) → numbers ≤ number → (if nat_lt number numbers then a else b) ≡ b
 above number a b outside = grind (arith, nat_tests)
 
 answer_is : (outcome : Option Instance) → (answer_of outcome ≡ Ok tt) ⊎ (answer_of outcome ≡ Err NotAllowed)

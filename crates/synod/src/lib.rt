@@ -2,9 +2,11 @@
 #![tactic(auto)]
 
 mod instance;
+mod runs;
 mod sets;
 mod synod;
 
+pub use runs::play;
 pub use synod::Synod;
 
 /// How many acceptors each number has.

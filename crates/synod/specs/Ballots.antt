@@ -1,0 +1,26 @@
+-- What ballots are for, over whole runs of calls: no two values are ever counted under one number.
+use Rattle.std.specs.Prelude.{◌≡◌, ℕ, List, slice_get, Some, Ok}
+use Rattle.chooser.specs.declared.calls.Call.TheVariants.{Work}
+use Rattle.chooser.specs.declared.calls.Turn.{Turn}
+use Rattle.chooser.specs.Meaning.{decision_at}
+use Rattle.synod.specs.declared.synod.Synod.{Synod}
+use Rattle.synod.specs.Synod.{decisions_of, ballot_value}
+
+-- the ballot of the number was counted: in some turn, a count of it, which is step 4, was taken
+abbrev pub Counted : List Turn → ℕ → ℕ → Type 0
+Counted turns number ballot =
+    (turn set : ℕ) × (slice_get turns turn ≡ Some (record { call = Work number 4 ballot set; answer = Some (Ok tt) }))
+
+-- the ballot has a value, and it is what is decided under the number
+abbrev pub Decided : Synod → ℕ → ℕ → Type 0
+Decided synod number ballot =
+    (value : ℕ) × (ballot_value synod number ballot ≡ Some value) × (decision_at (decisions_of synod.instances) number ≡ Some value)
+
+-- In a run that ends with this synod, two ballots of one number that were ever counted have one value, and it is the one that is decided.
+pub record OneValue (turns : List Turn) (after : Synod) : Type 0 where
+  pub one_value : (number one other : ℕ) → Counted turns number one → Counted turns number other → ballot_value after number one ≡ ballot_value after number other
+  pub is_decided : (number ballot : ℕ) → Counted turns number ballot → Decided after number ballot
+
+-- a ballot that is fixed keeps its value
+abbrev pub ValuesStay : Synod → Synod → Type 0
+ValuesStay before after = (number ballot value : ℕ) → ballot_value before number ballot ≡ Some value → ballot_value after number ballot ≡ Some value
