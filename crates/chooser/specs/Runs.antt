@@ -1,5 +1,5 @@
 -- Runs of a chooser: calls made one after the other, each on what the one before left.
-use Rattle.std.specs.Prelude.{◌≡◌, ℕ, true, List, [], ◌∷◌, map, Some}
+use Rattle.std.specs.Prelude.{◌≡◌, ℕ, true, List, [], ◌∷◌, map, Option, Some}
 use Rattle.chooser.specs.declared.calls.Call.{Call}
 use Rattle.chooser.specs.declared.calls.Call.TheVariants.{Offer, Work}
 use Rattle.chooser.specs.declared.calls.Turn.{Turn}
@@ -27,3 +27,7 @@ DecisionsStay before after = (number value : ℕ) → decision_at before number 
 -- every decision is one of the offers under its number
 abbrev pub DecidedIsOffered : Decisions → OfferLists → Type 0
 DecidedIsOffered decided lists = (number value : ℕ) → decision_at decided number ≡ Some value → one_of (offers_at lists number) value ≡ true
+
+-- the answers of turns
+abbrev pub answers_of : List Turn → List (Option Answer)
+answers_of turns = map (λ (turn : Turn). turn.answer) turns

@@ -1,9 +1,8 @@
 -- The ledger keeps the laws of choosers.
-use Rattle.std.specs.Prelude.{◌≡◌, ℕ, zero, suc, ◌<◌, ◌≤◌, true, List, [], ◌∷◌, ◌++◌, length, map, slice_index_or, slice_set, Option, None, Some, Result, Ok, Err, refl}
+use Rattle.std.specs.Prelude.{◌≡◌, ℕ, zero, suc, ◌<◌, ◌≤◌, true, List, [], ◌∷◌, ◌++◌, length, map, slice_index_or, slice_set, Some, Ok, Err, refl}
 use Rattle.std.proofs.Common.{sym, ap, ◌∙◌, inr, arith}
-use Rattle.std.proofs.lemmas.List.{length-map, map-set, get_or-map, get_or-set_same}
+use Rattle.std.proofs.lemmas.List.{length-map, map-set, get_or-map}
 use Rattle.std.proofs.lemmas.Bool.Decides.{nat_tests}
-use Rattle.chooser.specs.declared.refusal.ChooserRefusal.TheVariants.{TooHigh, NotAllowed}
 use Rattle.chooser.specs.Limits.{numbers, most_offers, highest_offer}
 use Rattle.chooser.specs.Meaning.{OfferLists, Answer, offers_at, decision_at, one_of, offer_answer, offer_taken, lists_with}
 use Rattle.chooser.specs.Laws.{Deciding, Offered, Worked}
@@ -54,8 +53,8 @@ deciding_by lists number value (Ok _) is sixteen =
     let offers = offers_at lists number in
     let inside : number < numbers = grind (arith, nat_tests) in
     one_decided (firsts lists) _ number (first_of (offers ++ (value ∷ []))) (omega (arith, length-map lists first_of))
-      (map-set first_of lists number (offers ++ (value ∷ [])))
-      (λ first stands. first_stays offers value first (sym (first_at lists number) ∙ stands))
+    (map-set first_of lists number (offers ++ (value ∷ [])))
+    (λ first stands. first_stays offers value first (sym (first_at lists number) ∙ stands))
 deciding_by lists number value (Err why) is sixteen = nothing_decided (firsts lists) number (Err why)
 
 pub offering_is_lawful : (ledger : Ledger) (number value : ℕ) (answer : Answer) (after : OfferLists) → LedgerOffered (lists_of ledger) number value answer after

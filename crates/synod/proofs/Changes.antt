@@ -1,5 +1,5 @@
 -- A change of one number keeps all numbers.
-use Rattle.std.proofs.Common.{◌≡◌, ℕ, ◌≤◌, ◌<◌, ◌^◌, Bool, true, List, [], ◌∷◌, ◌++◌, map, length, slice_set, slice_index_or, get_or, Option, Some, None, Err, if◌then◌else◌, nat_lt, sym, ap, subst, ◌∙◌, ⊎_elim, refl, arith}
+use Rattle.std.proofs.Common.{◌≡◌, ℕ, ◌≤◌, ◌<◌, Bool, true, List, [], ◌∷◌, ◌++◌, map, length, slice_set, slice_index_or, Option, Some, None, Err, if◌then◌else◌, nat_lt, sym, ap, ◌∙◌, ⊎_elim, refl, arith}
 use Rattle.std.proofs.Math.Logic.{∥∥₁_map}
 use Rattle.std.proofs.lemmas.Bool.{cases_eq}
 use Rattle.std.proofs.lemmas.Bool.Decides.{nat_tests}
@@ -11,7 +11,6 @@ use Rattle.chooser.specs.Listed.{listed}
 use Rattle.chooser.specs.Meaning.{OfferLists, Answer, offers_at}
 use Rattle.synod.specs.declared.instance.Instance.{Instance}
 use Rattle.synod.specs.declared.synod.Synod.{Synod}
-use Rattle.synod.specs.Board.{acceptors}
 use Rattle.synod.specs.Instance.{last_ballot, within, work_step, answer_of, or_same}
 use Rattle.synod.specs.Kept.{Kept}
 use Rattle.synod.specs.KeptLaws.{work_is_kept, offering_is_kept}
@@ -28,13 +27,13 @@ all_kept_with : (fixing counting : ℕ → Bool) (lists : OfferLists) (instances
 all_kept_with fixing counting lists instances number offers x all_lists all_instances inside before kept other other_inside =
     ⊎_elim
     (λ same.
-        let offers_here : offers_at (slice_set lists number offers) other ≡ offers = rw same (get_or-set_same lists number offers [] (omega arith)) in
-        let here : instance_at (slice_set instances number x) other ≡ x = rw same (get_or-set_same instances number x no_instance (omega arith)) in
-        rw (offers_here, here) kept)
+    let offers_here : offers_at (slice_set lists number offers) other ≡ offers = rw same (get_or-set_same lists number offers [] (omega arith)) in
+    let here : instance_at (slice_set instances number x) other ≡ x = rw same (get_or-set_same instances number x no_instance (omega arith)) in
+    rw (offers_here, here) kept)
     (λ apart.
-        let offers_there : offers_at (slice_set lists number offers) other ≡ offers_at lists other = get_or-set_other lists number other offers [] apart in
-        let there : instance_at (slice_set instances number x) other ≡ instance_at instances other = get_or-set_other instances number other x no_instance apart in
-        rw (offers_there, there) (before other other_inside))
+    let offers_there : offers_at (slice_set lists number offers) other ≡ offers_at lists other = get_or-set_other lists number other offers [] apart in
+    let there : instance_at (slice_set instances number x) other ≡ instance_at instances other = get_or-set_other instances number other x no_instance apart in
+    rw (offers_there, there) (before other other_inside))
     (cases_eq other number)
 
 -- an instance that stays is put back where it was
@@ -53,11 +52,11 @@ module _ (synod : Synod) (number : ℕ) (inside : number < numbers) where
   offer_keeps_all value more other is =
       let lists = lists_of synod in
       let x = instance_at synod.instances number in
-      let kept = ∥∥₁_map (synod.all_kept number inside) (λ k. offering_is_kept _ _ _ _ k value) in
+      let kept = ∥∥₁_map (synod.all_kept number inside) (λ k. offering_is_kept k value) in
       let all = all_kept_with (won synod.wins) (won synod.wins) lists synod.instances number _ x
-              (length-map synod.offers listed ∙ synod.sixteen_lists) synod.sixteen_instances inside synod.all_kept kept in
+      (length-map synod.offers listed ∙ synod.sixteen_lists) synod.sixteen_instances inside synod.all_kept kept in
       let offers : map listed (slice_set synod.offers number more) ≡ slice_set lists number (offers_at lists number ++ (value ∷ [])) =
-              map-set listed synod.offers number more ∙ ap (slice_set lists number) (is ∙ ap (λ os. os ++ (value ∷ [])) (sym (offers_are other))) in
+      map-set listed synod.offers number more ∙ ap (slice_set lists number) (is ∙ ap (λ os. os ++ (value ∷ [])) (sym (offers_are other))) in
       let same : slice_set synod.instances number x ≡ synod.instances = set-get_or synod.instances number no_instance in
       rw offers (rw same at all)
 
@@ -74,8 +73,8 @@ module _ (synod : Synod) (number : ℕ) (inside : number < numbers) where
         → Kept (won synod.wins) (won synod.wins) (offers_at (lists_of synod) number) (or_same outcome (instance_at synod.instances number))
     or_same_is_kept None is kept = kept
     or_same_is_kept (Some y) is kept =
-        work_is_kept _ _ _ _ (meeting (won synod.wins) (won synod.wins) synod.never_apart) synod.everyone_wins synod.everyone_wins kept
-            step ballot set (won synod.wins set) (λ wins. wins) (λ wins. wins) first last y is
+        work_is_kept kept (meeting (won synod.wins) (won synod.wins) synod.never_apart) synod.everyone_wins synod.everyone_wins
+        ballot set (won synod.wins set) (λ wins. wins) (λ wins. wins) first last y step is
 
     pub work_keeps_all : (after : Instance) (other : Offers)
         → after ≡ or_same (work_step (instance_at synod.instances number) (listed (slice_index_or synod.offers number other)) step ballot set (won synod.wins set)) (instance_at synod.instances number)
@@ -84,7 +83,7 @@ module _ (synod : Synod) (number : ℕ) (inside : number < numbers) where
         let lists = lists_of synod in
         let kept = ∥∥₁_map (synod.all_kept number inside) (or_same_is_kept _ refl) in
         let all = all_kept_with (won synod.wins) (won synod.wins) lists synod.instances number (offers_at lists number) _
-                (length-map synod.offers listed ∙ synod.sixteen_lists) synod.sixteen_instances inside synod.all_kept kept in
+        (length-map synod.offers listed ∙ synod.sixteen_lists) synod.sixteen_instances inside synod.all_kept kept in
         let same : slice_set lists number (offers_at lists number) ≡ lists = set-get_or lists number [] in
         rw (is, sym (offers_are other)) (rw same at all)
 
@@ -101,7 +100,7 @@ module _ (synod : Synod) (number : ℕ) (inside : number < numbers) where
     pub work_instances : (other : Offers) (after : Instance)
         → after ≡ or_same (work_step (instance_at synod.instances number) (listed (slice_index_or synod.offers number other)) step ballot set (won synod.wins set)) (instance_at synod.instances number)
         → slice_set synod.instances number after
-          ≡ (if nat_lt number numbers then instances_with (worked synod.wins (lists_of synod) synod.instances number step ballot set) synod.instances number else synod.instances)
+        ≡ (if nat_lt number numbers then instances_with (worked synod.wins (lists_of synod) synod.instances number step ballot set) synod.instances number else synod.instances)
     work_instances other after is =
         ap (slice_set synod.instances number) (is ∙ ap (λ outcome. or_same outcome (instance_at synod.instances number)) (sym (step_is other)))
         ∙ set_or_same synod.instances number _ ∙ sym (below number _ _ inside)

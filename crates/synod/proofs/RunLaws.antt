@@ -1,5 +1,5 @@
 -- In every run the ballots that were counted have the value that is decided.
-use Rattle.std.proofs.Common.{◌≡◌, ℕ, zero, suc, ◌<◌, ◌≤◌, true, List, [], ◌∷◌, Option, Some, None, Ok, Err, slice_get, slice_set, if◌then◌else◌, nat_lt, sym, ap, subst, ◌∙◌, ⊎_elim, refl, arith}
+use Rattle.std.proofs.Common.{◌≡◌, ℕ, zero, suc, ◌<◌, List, [], ◌∷◌, Option, Some, None, Ok, Err, slice_set, sym, ap, subst, ◌∙◌, ⊎_elim, refl, arith}
 use Rattle.std.proofs.Math.Logic.{∥∥₁_elim, ∥∥₁_map}
 use Rattle.std.proofs.Props.{props}
 use mathlib.Core.HLevel.{⊥_prop}
@@ -10,17 +10,18 @@ use Rattle.chooser.specs.declared.calls.Call.TheVariants.{Offer, Work}
 use Rattle.chooser.specs.declared.calls.Turn.{Turn}
 use Rattle.chooser.specs.declared.refusal.ChooserRefusal.TheVariants.{TooHigh}
 use Rattle.chooser.specs.Limits.{numbers}
-use Rattle.chooser.specs.Meaning.{OfferLists, Answer, offers_at, decision_at}
-use Rattle.chooser.specs.Runs.{Does, Run, DecisionsStay}
+use Rattle.chooser.specs.Meaning.{Answer}
+use Rattle.chooser.specs.Runs.{Does, Run, DecisionsStay, calls_of, answers_of}
 use Rattle.chooser.specs.Deciding.{deciding_stays}
 use Rattle.synod.specs.declared.instance.Instance.{Instance}
 use Rattle.synod.specs.declared.synod.Synod.{Synod}
-use Rattle.synod.specs.Instance.{value_at, work_step, answer_of}
+use Rattle.synod.specs.Instance.{value_at, answer_of}
 use Rattle.synod.specs.KeptLaws.{work_keeps_values, counted_is_decided}
 use Rattle.synod.specs.Invariant.{won, no_instance, instance_at}
 use Rattle.synod.specs.Meeting.{meeting}
 use Rattle.synod.specs.Synod.{lists_of, decisions_of, ballot_value, worked, instances_with, SynodOffered, SynodWorked}
 use Rattle.synod.specs.SynodLaws.{decision_is, worked_is, below, above, offering_is_lawful, working_is_lawful}
+use Rattle.synod.specs.Played.{tables_of, answer_to, after_call, answers_to, after_calls}
 use Rattle.synod.specs.Ballots.{Counted, Decided, OneValue, ValuesStay}
 
 -- one call: values of ballots stay, since only ballots without a value are fixed
@@ -31,8 +32,8 @@ instances_keep_values before number step ballot set inside (Some y) is other b v
     let (first, last, step_is) = worked_is before.wins (lists_of before) before.instances number step ballot set y is in
     ⊎_elim
     (λ same.
-        let here : instance_at (slice_set before.instances number y) other ≡ y = rw same (get_or-set_same before.instances number y no_instance (omega (arith, before.sixteen_instances))) in
-        rw here (work_keeps_values _ y _ step ballot set _ step_is b value (rw same at fixed)))
+    let here : instance_at (slice_set before.instances number y) other ≡ y = rw same (get_or-set_same before.instances number y no_instance (omega (arith, before.sixteen_instances))) in
+    rw here (work_keeps_values _ _ ballot set _ y step step_is b value (rw same at fixed)))
     (λ apart. ap (λ x. value_at x b) (get_or-set_other before.instances number other y no_instance apart) ∙ fixed)
     (cases_eq other number)
 
@@ -60,10 +61,11 @@ run_keeps_values before after (turn ∷ turns) (answer, between, is, does, rest)
 run_keeps_decided : (before after : Synod) (turns : List Turn) → Run SynodOffered SynodWorked before turns after → (number ballot : ℕ) → Decided before number ballot → Decided after number ballot
 run_keeps_decided before after [] run number ballot decided = subst (λ synod. Decided synod number ballot) (sym run) decided
 run_keeps_decided before after (turn ∷ turns) (answer, between, is, does, rest) number ballot (value, fixed, decided) =
-    run_keeps_decided between after turns rest number ballot
-      ( value
-      , does_keeps_values before between turn.call answer does number ballot value fixed
-      , does_keeps_decisions before between turn.call answer does number value decided )
+    run_keeps_decided between after turns rest number ballot (
+      value,
+      does_keeps_values before between turn.call answer does number ballot value fixed,
+      does_keeps_decisions before between turn.call answer does number value decided,
+    )
 
 -- what is taken changes the instance
 taken_changes : (outcome : Option Instance) → Ok tt ≡ answer_of outcome → (y : Instance) × (outcome ≡ Some y)
@@ -82,10 +84,10 @@ count_decides before after number ballot set inside done =
     let (first, last, step_is) = worked_is before.wins (lists_of before) before.instances number 4 ballot set y is in
     let changed : after.instances ≡ slice_set before.instances number y = done.changed ∙ below number _ _ inside ∙ ap (λ outcome. instances_with outcome before.instances number) is in
     let here : instance_at after.instances number ≡ y =
-        ap (λ xs. instance_at xs number) changed ∙ get_or-set_same before.instances number y no_instance (omega (arith, before.sixteen_instances)) in
+    ap (λ xs. instance_at xs number) changed ∙ get_or-set_same before.instances number y no_instance (omega (arith, before.sixteen_instances)) in
     let kept = ∥∥₁_map (before.all_kept number inside) (λ k.
-            counted_is_decided _ _ _ _ (meeting (won before.wins) (won before.wins) before.never_apart) before.everyone_wins before.everyone_wins k
-                4 ballot set (won before.wins set) (λ wins. wins) (λ wins. wins) first last y step_is) in
+    counted_is_decided k (meeting (won before.wins) (won before.wins) before.never_apart) before.everyone_wins before.everyone_wins
+    ballot set (won before.wins set) (λ wins. wins) (λ wins. wins) first last y step_is) in
     let (value, fixed, decided) = common_value (value_at y ballot) y.decision kept in
     (value, ap (λ x. value_at x ballot) here ∙ fixed, decision_is after.instances number ∙ ap (λ (x : Instance). x.decision) here ∙ decided)
 
@@ -112,3 +114,20 @@ run_has_one_value before after turns run = record {
       one_fixed ∙ sym v_decided ∙ w_decided ∙ sym other_fixed;
   is_decided = counted_is_decided_after before after turns run;
 }
+
+-- one call, computed
+does_is : (before after : Synod) (call : Call) (answer : Answer) → Does SynodOffered SynodWorked before call answer after
+    → (answer ≡ answer_to (tables_of before) call) × (tables_of after ≡ after_call (tables_of before) call)
+does_is before after (Offer number value) answer does = (does.answered, rw (does.appended, does.instances_stay, does.wins_stay) refl)
+does_is before after (Work number step ballot set) answer does = (does.answered, rw (does.changed, does.offers_stay, does.wins_stay) refl)
+
+-- a whole run, computed
+pub run_is : (before after : Synod) (turns : List Turn) → Run SynodOffered SynodWorked before turns after
+    → (answers_of turns ≡ answers_to (tables_of before) (calls_of turns)) × (tables_of after ≡ after_calls (tables_of before) (calls_of turns))
+run_is before after [] run = (refl, ap tables_of run)
+run_is before after (turn ∷ turns) (answer, between, is, does, rest) =
+    let (answered, left) = does_is before between turn.call answer does in
+    let (answers, tables) = run_is between after turns rest in (
+      rw (is, answered, answers, left) refl,
+      tables ∙ ap (λ t. after_calls t (calls_of turns)) left,
+    )

@@ -1,8 +1,8 @@
 -- A synod at its making.
-use Rattle.std.proofs.Common.{◌≡◌, ℕ, ◌<◌, Bool, true, false, List, [], map, length, replicate, get_or, sym, ap, subst, ◌∙◌, ⊎_elim, refl, arith}
+use Rattle.std.proofs.Common.{◌≡◌, ℕ, Bool, true, false, [], map, replicate, sym, ap, ◌∙◌, ⊎_elim, arith}
 use Rattle.std.specs.List.{range_with_len}
 use Rattle.std.proofs.lemmas.Bool.{cases_lt}
-use Rattle.std.proofs.lemmas.List.{get_or_past, get_or-replicate, get_or-map, length-replicate}
+use Rattle.std.proofs.lemmas.List.{get_or_past, get_or-replicate, get_or-map}
 use Rattle.std.proofs.lemmas.List.FromFn.{length-map-range_with_len, get_or-map-range_with_len}
 use Rattle.chooser.specs.declared.offers.Offers.{Offers}
 use Rattle.chooser.specs.Limits.{numbers}
@@ -11,7 +11,6 @@ use Rattle.chooser.specs.Meaning.{offers_at}
 use Rattle.quorum.specs.Sets.{Share}
 use Rattle.synod.specs.Board.{acceptors}
 use Rattle.synod.specs.Instance.{blank}
-use Rattle.synod.specs.Kept.{Kept}
 use Rattle.synod.specs.KeptLaws.{blank_is_kept}
 use Rattle.synod.specs.Invariant.{won, no_instance, instance_at, NeverApart, AllKept}
 
@@ -21,8 +20,8 @@ rule_agrees winning set wins =
     ⊎_elim
     (λ below. sym (get_or-map-range_with_len winning 0 32 set set false below (omega arith)) ∙ wins)
     (λ above.
-        let none : won (map winning (range_with_len 0 32)) set ≡ false = get_or_past (map winning (range_with_len 0 32)) set false (omega (arith, length-map-range_with_len winning 0 32)) in
-        absurd cc)
+    let none : won (map winning (range_with_len 0 32)) set ≡ false = get_or_past (map winning (range_with_len 0 32)) set false (omega (arith, length-map-range_with_len winning 0 32)) in
+    absurd cc)
     (cases_lt set 32)
 
 -- so no two of them are apart
@@ -34,6 +33,6 @@ start_never_apart winning meet a b a_wins b_wins apart = apart (meet a b (rule_a
 pub start_all_kept : (fixing counting : ℕ → Bool) (none : Offers) → listed none ≡ [] → AllKept fixing counting (map listed (replicate numbers none)) (replicate numbers blank)
 start_all_kept fixing counting none empty number inside =
     let no_offers : offers_at (map listed (replicate numbers none)) number ≡ [] =
-        get_or-map listed (replicate numbers none) number none [] (omega arith) ∙ ap listed (get_or-replicate numbers number none none inside) ∙ empty in
+    get_or-map listed (replicate numbers none) number none [] (omega arith) ∙ ap listed (get_or-replicate numbers number none none inside) ∙ empty in
     let fresh : instance_at (replicate numbers blank) number ≡ blank = get_or-replicate numbers number blank no_instance inside in
     rw (no_offers, fresh) (∣ blank_is_kept fixing counting ∣₁)

@@ -1,14 +1,12 @@
 -- What the synod does, exactly, over what it keeps: the rule's answers for the 32 sets, the offers, and an instance for each number.
-use Rattle.std.specs.Prelude.{◌≡◌, ℕ, ◌-◌, ◌^◌, ◌<◌, Bool, true, false, ◌&&◌, nat_le, nat_lt, if◌then◌else◌, List, map, slice_set, get_or, Option, None, Some, Err}
+use Rattle.std.specs.Prelude.{◌≡◌, ℕ, Bool, nat_lt, if◌then◌else◌, List, map, slice_set, Option, None, Some, Err}
 use Rattle.chooser.specs.declared.refusal.ChooserRefusal.TheVariants.{TooHigh}
 use Rattle.chooser.specs.Limits.{numbers}
 use Rattle.chooser.specs.Listed.{listed}
 use Rattle.chooser.specs.Meaning.{OfferLists, Decisions, Answer, offers_at, offer_answer, lists_with}
-use Rattle.quorum.specs.Sets.{Share}
 use Rattle.synod.specs.declared.instance.Instance.{Instance}
 use Rattle.synod.specs.declared.synod.Synod.{Synod}
-use Rattle.synod.specs.Board.{acceptors}
-use Rattle.synod.specs.Instance.{within,  value_at, work_step, answer_of}
+use Rattle.synod.specs.Instance.{within, value_at, work_step, answer_of}
 use Rattle.synod.specs.Invariant.{won, instance_at}
 
 -- the offers of a synod

@@ -1,5 +1,5 @@
 -- The synod keeps the laws of choosers.
-use Rattle.std.specs.Prelude.{◌≡◌, ℕ, zero, suc, ◌^◌, ◌<◌, ◌≤◌, ◌⊎◌, Bool, true, false, ◌&&◌, nat_le, nat_lt, if◌then◌else◌, List, [], ◌∷◌, length, map, slice_set, Option, Some, None, Ok, Err, refl}
+use Rattle.std.specs.Prelude.{◌≡◌, ℕ, zero, suc, ◌<◌, ◌≤◌, ◌⊎◌, Bool, true, false, nat_lt, if◌then◌else◌, List, [], ◌∷◌, length, Option, Some, None, Ok, Err, refl}
 use Rattle.std.proofs.Common.{sym, ap, ◌∙◌, inl, inr, ⊎_elim, arith}
 use Rattle.std.proofs.Math.Logic.{∥∥₁_elim}
 use Rattle.std.proofs.Props.{props}
@@ -14,7 +14,6 @@ use Rattle.chooser.specs.Laws.{Deciding, Offered, Worked}
 use Rattle.chooser.specs.Deciding.{nothing_decided, one_decided, under_each, listed_few, listed_bytes}
 use Rattle.synod.specs.declared.instance.Instance.{Instance}
 use Rattle.synod.specs.declared.synod.Synod.{Synod}
-use Rattle.synod.specs.Board.{acceptors}
 use Rattle.synod.specs.Instance.{last_ballot, within, work_step, answer_of}
 use Rattle.synod.specs.Invariant.{won, instance_at}
 use Rattle.synod.specs.KeptLaws.{decided_is_among, work_keeps_decision}
@@ -44,11 +43,11 @@ pub decided_is_offered : (synod : Synod) (number value : ℕ) → decision_at (d
 decided_is_offered synod number value is =
     ⊎_elim
     (λ below.
-        ∥∥₁_elim (synod.all_kept number below) (Prim.hlevel props) (λ kept.
-            decided_is_among _ _ _ _ kept value (sym (decision_is synod.instances number) ∙ is)))
+    ∥∥₁_elim (synod.all_kept number below) (Prim.hlevel props) (λ kept.
+    decided_is_among kept value (sym (decision_is synod.instances number) ∙ is)))
     (λ above.
-        let none : decision_at (decisions_of synod.instances) number ≡ None = get_or_past (decisions_of synod.instances) number None (omega (arith, sixteen_decisions synod)) in
-        absurd cc)
+    let none : decision_at (decisions_of synod.instances) number ≡ None = get_or_past (decisions_of synod.instances) number None (omega (arith, sixteen_decisions synod)) in
+    absurd cc)
     (cases_lt number numbers)
 
 pub offering_is_lawful : (before after : Synod) (number value : ℕ) (answer : Answer) → SynodOffered before number value answer after
@@ -90,11 +89,11 @@ module _ (synod : Synod) (number step ballot set : ℕ) (inside : number < numbe
   deciding_by (Some y) is =
       let (first, last, step_is) = worked_is synod.wins (lists_of synod) synod.instances number step ballot set y is in
       one_decided (decisions_of synod.instances) _ number y.decision (omega (arith, sixteen_decisions synod))
-        (map-set (λ (x : Instance). x.decision) synod.instances number y)
-        (λ value stands.
-            ∥∥₁_elim (synod.all_kept number inside) (Prim.hlevel props) (λ kept.
-                work_keeps_decision _ _ _ _ (meeting (won synod.wins) (won synod.wins) synod.never_apart) synod.everyone_wins synod.everyone_wins kept
-                    step ballot set (won synod.wins set) (λ wins. wins) (λ wins. wins) first last y step_is value (sym (decision_is synod.instances number) ∙ stands)))
+      (map-set (λ (x : Instance). x.decision) synod.instances number y)
+      (λ value stands.
+      ∥∥₁_elim (synod.all_kept number inside) (Prim.hlevel props) (λ kept.
+      work_keeps_decision kept (meeting (won synod.wins) (won synod.wins) synod.never_apart) synod.everyone_wins synod.everyone_wins
+      ballot set (won synod.wins set) (λ wins. wins) (λ wins. wins) first last y step step_is value (sym (decision_is synod.instances number) ∙ stands)))
 
 pub working_is_lawful : (before after : Synod) (number step ballot set : ℕ) (answer : Answer) → SynodWorked before number step ballot set answer after
     → Worked (decisions_of before.instances) (lists_of before) number answer (decisions_of after.instances) (lists_of after)
@@ -102,21 +101,21 @@ working_is_lawful before after number step ballot set answer done =
     let outcome = worked before.wins (lists_of before) before.instances number step ballot set in
     ⊎_elim
     (λ inside.
-        let answered : answer ≡ answer_of outcome = done.answered ∙ below number _ _ inside in
-        let changed : after.instances ≡ instances_with outcome before.instances number = done.changed ∙ below number _ _ inside in
-        record {
-          too_high = λ outside. absurd (omega arith);
-          within = λ _. ⊎_elim (λ ok. inl (answered ∙ ok)) (λ err. inr (answered ∙ err)) (answer_is outcome);
-          offers_stay = done.offers_stay;
-          deciding = rw (answered, changed) (deciding_by before number step ballot set inside outcome refl);
-        })
+    let answered : answer ≡ answer_of outcome = done.answered ∙ below number _ _ inside in
+    let changed : after.instances ≡ instances_with outcome before.instances number = done.changed ∙ below number _ _ inside in
+    record {
+      too_high = λ outside. absurd (omega arith);
+      within = λ _. ⊎_elim (λ ok. inl (answered ∙ ok)) (λ err. inr (answered ∙ err)) (answer_is outcome);
+      offers_stay = done.offers_stay;
+      deciding = rw (answered, changed) (deciding_by before number step ballot set inside outcome refl);
+    })
     (λ outside.
-        let answered : answer ≡ Err TooHigh = done.answered ∙ above number _ _ outside in
-        let same : after.instances ≡ before.instances = done.changed ∙ above number _ _ outside in
-        record {
-          too_high = λ _. answered;
-          within = λ inside. absurd (omega arith);
-          offers_stay = done.offers_stay;
-          deciding = rw same (nothing_decided (decisions_of before.instances) number answer);
-        })
+    let answered : answer ≡ Err TooHigh = done.answered ∙ above number _ _ outside in
+    let same : after.instances ≡ before.instances = done.changed ∙ above number _ _ outside in
+    record {
+      too_high = λ _. answered;
+      within = λ inside. absurd (omega arith);
+      offers_stay = done.offers_stay;
+      deciding = rw same (nothing_decided (decisions_of before.instances) number answer);
+    })
     (cases_lt number numbers)

@@ -1,7 +1,8 @@
 //! Runs of a synod, and what holds of every one of them.
 ghost use Rattle.std.specs.Prelude.{◌≡◌};
-ghost use Rattle.chooser.specs.Runs.{Run, calls_of, DecisionsStay};
-ghost use Rattle.synod.specs.Synod.{SynodOffered, SynodWorked, decisions_of};
+ghost use Rattle.chooser.specs.Runs.{calls_of, answers_of, DecisionsStay};
+ghost use Rattle.synod.specs.Synod.{decisions_of};
+ghost use Rattle.synod.specs.Played.{tables_of, answers_to, after_calls};
 ghost use Rattle.synod.specs.Ballots.{OneValue, ValuesStay};
 
 use crate::Synod;
@@ -9,7 +10,8 @@ use chooser::Turn;
 
 /// Makes the calls of the turns, one after the other, and writes down what each was answered.
 pub fn play(synod: &mut Synod, turns: &mut [Turn])
-    ensures run { Run SynodOffered SynodWorked synod.old turns.new synod.new }
+    ensures played { tables_of synod.new ≡ after_calls (tables_of synod.old) (calls_of turns.old) }
+    ensures answered { answers_of turns.new ≡ answers_to (tables_of synod.old) (calls_of turns.old) }
     ensures same_calls { calls_of turns.new ≡ calls_of turns.old }
     ensures one_value { OneValue turns.new synod.new }
     ensures values_stay { ValuesStay synod.old synod.new }

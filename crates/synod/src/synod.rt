@@ -7,8 +7,8 @@ ghost use Rattle.quorum.specs.Sets.{everyone as all_places};
 ghost use Rattle.synod.specs.Board.{acceptors};
 ghost use Rattle.synod.specs.Invariant.{won, NeverApart, AllKept};
 
-use crate::instance::Instance;
 use crate::ACCEPTORS;
+use crate::instance::Instance;
 use crate::sets::within;
 use chooser::{Chooser, ChooserRefusal, NUMBERS, Offers};
 use quorum::QuorumRule;
@@ -97,13 +97,7 @@ impl Chooser for Synod {
         Ok(())
     }
 
-    fn work(
-        &mut self,
-        number: u8,
-        step: u8,
-        ballot: u8,
-        set: u8,
-    ) -> Result<(), ChooserRefusal> {
+    fn work(&mut self, number: u8, step: u8, ballot: u8, set: u8) -> Result<(), ChooserRefusal> {
         if number >= NUMBERS {
             return Err(ChooserRefusal::TooHigh);
         }

@@ -1,4 +1,4 @@
-use Rattle.std.proofs.Common.{◌≡◌, ◌≢◌, ℕ, ◌+◌, ◌<◌, length, map, get_or, false, sym, ◌∙◌, arith, get_or-set_other, get_or-set_same, below_more}
+use Rattle.std.proofs.Common.{map, false, sym, ◌∙◌, arith, get_or-set_other, get_or-set_same, below_more}
 use Rattle.std.specs.List.{range_with_len}
 use Rattle.std.proofs.lemmas.List.{ext_get_or, length-set}
 use Rattle.std.proofs.lemmas.List.FromFn.{length-map-range_with_len, get_or-map-range_with_len}
@@ -10,11 +10,12 @@ loop-set-preserved g c =
     let (all, each) = c.loop-set.invariant in
     let wins = c.loop-set.wins in
     let set = c.loop-set.set in
-    rw c.from.ensures
-      ( length-set wins set c.wins.result ∙ all
-      , below_more _ _
+    rw c.from.ensures (
+      length-set wins set c.wins.result ∙ all,
+      below_more _ _
           (λ k below. get_or-set_other wins set k c.wins.result false (omega arith) ∙ each k below)
-          (get_or-set_same wins set c.wins.result false (omega arith) ∙ c.wins.ensures) )
+          (get_or-set_same wins set c.wins.result false (omega arith) ∙ c.wins.ensures),
+    )
 
 -- lists of 32 that agree everywhere are one
 pub returns : goal.returns
@@ -22,4 +23,4 @@ returns g c =
     let (all, each) = c.loop-set.invariant in
     let winning = g.Q.QuorumRule.winning c.args.rule.now acceptors in
     ext_get_or false c.loop-set.wins (map winning (range_with_len 0 32)) (all ∙ sym (length-map-range_with_len winning 0 32))
-      (λ k below. each k (omega arith) ∙ sym (get_or-map-range_with_len winning 0 32 k k false (omega arith) (omega arith)))
+    (λ k below. each k (omega arith) ∙ sym (get_or-map-range_with_len winning 0 32 k k false (omega arith) (omega arith)))

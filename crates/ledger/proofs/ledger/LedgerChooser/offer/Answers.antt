@@ -1,4 +1,4 @@
-use Rattle.std.proofs.Common.{◌≡◌, ℕ, ◌<◌, length, Ok, sym, ap, ◌∙◌, arith, List, [], ◌∷◌, ◌++◌, slice_index_or}
+use Rattle.std.proofs.Common.{◌≡◌, Ok, sym, ap, ◌∙◌, arith, [], ◌∷◌, ◌++◌, slice_index_or}
 use Rattle.chooser.specs.Meaning.{offer_taken, offers_with}
 use Rattle.chooser.specs.Listed.{listed}
 use Rattle.ledger.specs.LedgerLaws.{offered_at}

@@ -1,8 +1,7 @@
-use Rattle.std.proofs.Common.{◌≡◌, ◌<◌, length, Ok, sym, refl, ap, ◌∙◌, arith, List, [], ◌∷◌, ◌++◌, slice_index_or}
+use Rattle.std.proofs.Common.{◌≡◌, ◌<◌, length, Ok, sym, refl, ap, ◌∙◌, arith, [], ◌∷◌, ◌++◌, slice_index_or}
 use Rattle.std.proofs.lemmas.List.{length-set}
 use Rattle.chooser.specs.Deciding.{answered_at, appended_at}
 use Rattle.chooser.specs.Listed.{listed}
-use Rattle.chooser.specs.Limits.{numbers}
 use Rattle.chooser.specs.Meaning.{offer_taken, offers_with, offer_answer, lists_with}
 use Rattle.synod.specs.Synod.{lists_of}
 use Rattle.synod.proofs.Changes.{offer_keeps_all}
@@ -13,7 +12,7 @@ invariant_of-self-clause-all_kept c =
     let old = listed (slice_index_or c.args.self.now.offers c.from-at.result c.index-self-at.result) in
     let taken : offer_taken old ≡ Ok tt = sym c.add.ensures.answered ∙ c.in_ok-add.was in
     offer_keeps_all c.args.self.now c.from-at.result (omega (arith, c.from-at.ensures)) c.args.value c.add.new.self c.index-self-at.result
-      (c.add.ensures.appended ∙ ap (λ answer. offers_with answer old c.args.value) taken)
+    (c.add.ensures.appended ∙ ap (λ answer. offers_with answer old c.args.value) taken)
 
 pub invariant_of-self-clause-sixteen_lists : goal.invariant_of-self-clause-sixteen_lists
 invariant_of-self-clause-sixteen_lists c = length-set c.args.self.now.offers c.from-at.result c.add.new.self ∙ c.args.self.now.sixteen_lists
