@@ -5,6 +5,9 @@ ghost use Rattle.std.specs.Prelude.{◌≡◌, true};
 ghost use Rattle.cases.specs.Examples.{WorkedExamples};
 ghost use Rattle.cases.specs.FrameExamples.{FrameExamples};
 
+mod choosers;
+
+pub use choosers::{contested_ballot, first_offer_decided};
 use content::Content;
 use frame::SLOT;
 use quorum::{Majority, QuorumRule, Weighted};

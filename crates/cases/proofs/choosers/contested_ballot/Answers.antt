@@ -1,0 +1,45 @@
+use Rattle.std.proofs.Common.{◌≡◌, refl, ap, ◌∙◌}
+use native.Mathlib.Decide.{dec_le, dec_lt}
+use lib.Count.{ones, ones_in}
+use Rattle.chooser.specs.Meaning.{decision_at}
+use Rattle.synod.specs.Synod.{decisions_of}
+use Rattle.synod.specs.Played.{Tables, tables_of, after_calls}
+use Rattle.cases.specs.ChooserExamples.{ChooserExamples, by_majority, contested}
+use Rattle.cases.proofs.choosers.contested_ballot.Goals as goal
+
+examples : ChooserExamples
+unfolding dec_le dec_lt ones ones_in
+examples = record {
+  first_is_decided = refl;
+  ninth_is_refused = refl;
+  all_taken = refl;
+  first_has_its_offer = refl;
+  second_takes_over = refl;
+  nine_is_decided = refl;
+  undecided_before = refl;
+  late_count_is_refused = refl;
+  late_accept_is_taken = refl;
+  passed_over_is_refused = refl;
+  one_at_a_time = refl;
+  two_fix_nothing = refl;
+  promised_is_refused = refl;
+  no_fourth_offer = refl;
+  ninth_ballot_is_the_seconds = refl;
+  no_ballot_0 = refl;
+  no_ballot_16 = refl;
+  no_sixth_acceptor = refl;
+  no_fifth_step = refl;
+  no_number_16 = refl;
+  numbers_of_refusals = refl;
+}
+
+pub returns-clause-listed : goal.returns-clause-listed
+returns-clause-listed c = examples
+
+-- the synod starts by the majority, so playing leaves what the example computes
+pub returns-clause-decided : goal.returns-clause-decided
+returns-clause-decided c =
+    let made = c.new-synod.ensures in
+    let start : tables_of c.new-synod.result ≡ by_majority = rw (made.asked, made.nothing_offered, made.blank) refl in
+    let played : tables_of c.play.new.synod ≡ after_calls by_majority contested = c.play.ensures.played ∙ rw (start, c.contested.ensures) refl in
+    c.decision.ensures ∙ ap (λ (t : Tables). decision_at (decisions_of t.instances) 0) played ∙ examples.nine_is_decided
