@@ -1,22 +1,21 @@
 -- A change of one number keeps all numbers.
-use Rattle.std.proofs.Common.{◌≡◌, ℕ, ◌≤◌, ◌<◌, Bool, true, List, [], ◌∷◌, ◌++◌, map, length, slice_set, slice_index_or, Option, Some, None, Err, if◌then◌else◌, nat_lt, sym, ap, ◌∙◌, ⊎_elim, refl, arith}
+use Rattle.std.proofs.Common.{◌≡◌, ℕ, ◌<◌, Bool, List, [], ◌∷◌, ◌++◌, map, length, slice_set, slice_index_or, Option, Some, None, Err, if◌then◌else◌, nat_lt, sym, ap, ◌∙◌, ⊎_elim, refl, arith}
 use Rattle.std.proofs.Math.Logic.{∥∥₁_map}
 use Rattle.std.proofs.lemmas.Bool.{cases_eq}
-use Rattle.std.proofs.lemmas.Bool.Decides.{nat_tests}
 use Rattle.std.proofs.lemmas.List.{get_or-map, get_or-set_same, get_or-set_other, set-get_or, map-set, length-map}
 use Rattle.chooser.specs.declared.offers.Offers.{Offers}
 use Rattle.chooser.specs.declared.refusal.ChooserRefusal.TheVariants.{TooHigh}
 use Rattle.chooser.specs.Limits.{numbers}
 use Rattle.chooser.specs.Listed.{listed}
 use Rattle.chooser.specs.Meaning.{OfferLists, Answer, offers_at}
-use Rattle.synod.specs.declared.instance.Instance.{Instance}
+use Rattle.ballots.specs.declared.instance.Instance.{Instance}
 use Rattle.synod.specs.declared.synod.Synod.{Synod}
-use Rattle.synod.specs.Instance.{last_ballot, within, work_step, answer_of, or_same}
-use Rattle.synod.specs.Kept.{Kept}
-use Rattle.synod.specs.KeptLaws.{work_is_kept, offering_is_kept}
+use Rattle.ballots.specs.Instance.{worked, answer_of, or_same}
+use Rattle.ballots.specs.Kept.{Kept, StaysKept}
+use Rattle.ballots.proofs.KeptLaws.{offering_is_kept}
 use Rattle.synod.specs.Invariant.{won, no_instance, instance_at, AllKept}
 use Rattle.synod.specs.Meeting.{meeting}
-use Rattle.synod.specs.Synod.{lists_of, worked, instances_with}
+use Rattle.synod.specs.Synod.{lists_of, worked_at, instances_with}
 use Rattle.synod.specs.SynodLaws.{below}
 
 -- the number's new offers and instance are kept, the others are as before
@@ -60,47 +59,36 @@ module _ (synod : Synod) (number : ℕ) (inside : number < numbers) where
       let same : slice_set synod.instances number x ≡ synod.instances = set-get_or synod.instances number no_instance in
       rw offers (rw same at all)
 
-  module _ (step ballot set : ℕ) (is_within : within ballot set ≡ true) where
-    first : 1 ≤ ballot
-    first = grind (arith, nat_tests)
+  -- a step that keeps the number's own instance
+  pub work_keeps_all : (set : ℕ) (after : Instance) (other : Offers)
+      → StaysKept (instance_at synod.instances number) (listed (slice_index_or synod.offers number other)) set (won synod.wins set) after
+      → AllKept (won synod.wins) (won synod.wins) (lists_of synod) (slice_set synod.instances number after)
+  work_keeps_all set after other stays =
+      let lists = lists_of synod in
+      let kept = ∥∥₁_map (synod.all_kept number inside) (λ k.
+      stays (won synod.wins) (won synod.wins) (meeting (won synod.wins) (won synod.wins) synod.never_apart) synod.everyone_wins synod.everyone_wins
+      (λ wins. wins) (λ wins. wins) (rw (offers_are other) at k)) in
+      let all = all_kept_with (won synod.wins) (won synod.wins) lists synod.instances number _ after
+      (length-map synod.offers listed ∙ synod.sixteen_lists) synod.sixteen_instances inside synod.all_kept kept in
+      let same : slice_set lists number (listed (slice_index_or synod.offers number other)) ≡ lists =
+      ap (slice_set lists number) (sym (offers_are other)) ∙ set-get_or lists number [] in
+      rw same at all
 
-    last : ballot ≤ last_ballot
-    last = grind (arith, nat_tests)
-
-    -- the instance after a step that may not have been allowed
-    or_same_is_kept : (outcome : Option Instance) → work_step (instance_at synod.instances number) (offers_at (lists_of synod) number) step ballot set (won synod.wins set) ≡ outcome
-        → Kept (won synod.wins) (won synod.wins) (offers_at (lists_of synod) number) (instance_at synod.instances number)
-        → Kept (won synod.wins) (won synod.wins) (offers_at (lists_of synod) number) (or_same outcome (instance_at synod.instances number))
-    or_same_is_kept None is kept = kept
-    or_same_is_kept (Some y) is kept =
-        work_is_kept kept (meeting (won synod.wins) (won synod.wins) synod.never_apart) synod.everyone_wins synod.everyone_wins
-        ballot set (won synod.wins set) (λ wins. wins) (λ wins. wins) first last y step is
-
-    pub work_keeps_all : (after : Instance) (other : Offers)
-        → after ≡ or_same (work_step (instance_at synod.instances number) (listed (slice_index_or synod.offers number other)) step ballot set (won synod.wins set)) (instance_at synod.instances number)
-        → AllKept (won synod.wins) (won synod.wins) (lists_of synod) (slice_set synod.instances number after)
-    work_keeps_all after other is =
-        let lists = lists_of synod in
-        let kept = ∥∥₁_map (synod.all_kept number inside) (or_same_is_kept _ refl) in
-        let all = all_kept_with (won synod.wins) (won synod.wins) lists synod.instances number (offers_at lists number) _
-        (length-map synod.offers listed ∙ synod.sixteen_lists) synod.sixteen_instances inside synod.all_kept kept in
-        let same : slice_set lists number (offers_at lists number) ≡ lists = set-get_or lists number [] in
-        rw (is, sym (offers_are other)) (rw same at all)
-
+  module _ (step ballot set : ℕ) (other : Offers) where
     -- the step is made on the number's own instance, with its offers
-    step_is : (other : Offers) → worked synod.wins (lists_of synod) synod.instances number step ballot set
-        ≡ work_step (instance_at synod.instances number) (listed (slice_index_or synod.offers number other)) step ballot set (won synod.wins set)
-    step_is other = rw (is_within, offers_are other) refl
+    step_is : worked_at synod.wins (lists_of synod) synod.instances number step ballot set
+        ≡ worked (instance_at synod.instances number) (listed (slice_index_or synod.offers number other)) step ballot set (won synod.wins set)
+    step_is = ap (λ offers. worked (instance_at synod.instances number) offers step ballot set (won synod.wins set)) (offers_are other)
 
-    pub work_answer : (other : Offers) (answer : Answer)
-        → answer ≡ answer_of (work_step (instance_at synod.instances number) (listed (slice_index_or synod.offers number other)) step ballot set (won synod.wins set))
-        → answer ≡ (if nat_lt number numbers then answer_of (worked synod.wins (lists_of synod) synod.instances number step ballot set) else Err TooHigh)
-    work_answer other answer is = is ∙ ap answer_of (sym (step_is other)) ∙ sym (below number _ _ inside)
+    pub work_answer : (answer : Answer)
+        → answer ≡ answer_of (worked (instance_at synod.instances number) (listed (slice_index_or synod.offers number other)) step ballot set (won synod.wins set))
+        → answer ≡ (if nat_lt number numbers then answer_of (worked_at synod.wins (lists_of synod) synod.instances number step ballot set) else Err TooHigh)
+    work_answer answer is = is ∙ ap answer_of (sym step_is) ∙ sym (below number _ _ inside)
 
-    pub work_instances : (other : Offers) (after : Instance)
-        → after ≡ or_same (work_step (instance_at synod.instances number) (listed (slice_index_or synod.offers number other)) step ballot set (won synod.wins set)) (instance_at synod.instances number)
+    pub work_instances : (after : Instance)
+        → after ≡ or_same (worked (instance_at synod.instances number) (listed (slice_index_or synod.offers number other)) step ballot set (won synod.wins set)) (instance_at synod.instances number)
         → slice_set synod.instances number after
-        ≡ (if nat_lt number numbers then instances_with (worked synod.wins (lists_of synod) synod.instances number step ballot set) synod.instances number else synod.instances)
-    work_instances other after is =
-        ap (slice_set synod.instances number) (is ∙ ap (λ outcome. or_same outcome (instance_at synod.instances number)) (sym (step_is other)))
+        ≡ (if nat_lt number numbers then instances_with (worked_at synod.wins (lists_of synod) synod.instances number step ballot set) synod.instances number else synod.instances)
+    work_instances after is =
+        ap (slice_set synod.instances number) (is ∙ ap (λ outcome. or_same outcome (instance_at synod.instances number)) (sym step_is))
         ∙ set_or_same synod.instances number _ ∙ sym (below number _ _ inside)

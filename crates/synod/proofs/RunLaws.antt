@@ -10,26 +10,26 @@ use Rattle.chooser.specs.declared.calls.Call.TheVariants.{Offer, Work}
 use Rattle.chooser.specs.declared.calls.Turn.{Turn}
 use Rattle.chooser.specs.declared.refusal.ChooserRefusal.TheVariants.{TooHigh}
 use Rattle.chooser.specs.Limits.{numbers}
-use Rattle.chooser.specs.Meaning.{Answer}
+use Rattle.chooser.specs.Meaning.{Answer, offers_at}
 use Rattle.chooser.specs.Runs.{Does, Run, DecisionsStay, calls_of, answers_of}
 use Rattle.chooser.specs.Deciding.{deciding_stays}
-use Rattle.synod.specs.declared.instance.Instance.{Instance}
+use Rattle.ballots.specs.declared.instance.Instance.{Instance}
 use Rattle.synod.specs.declared.synod.Synod.{Synod}
-use Rattle.synod.specs.Instance.{value_at, answer_of}
-use Rattle.synod.specs.KeptLaws.{work_keeps_values, counted_is_decided}
+use Rattle.ballots.specs.Instance.{value_at, answer_of}
+use Rattle.ballots.proofs.KeptLaws.{worked_is, work_keeps_values, counted_is_decided}
 use Rattle.synod.specs.Invariant.{won, no_instance, instance_at}
 use Rattle.synod.specs.Meeting.{meeting}
-use Rattle.synod.specs.Synod.{lists_of, decisions_of, ballot_value, worked, instances_with, SynodOffered, SynodWorked}
-use Rattle.synod.specs.SynodLaws.{decision_is, worked_is, below, above, offering_is_lawful, working_is_lawful}
+use Rattle.synod.specs.Synod.{lists_of, decisions_of, ballot_value, worked_at, instances_with, SynodOffered, SynodWorked}
+use Rattle.synod.specs.SynodLaws.{decision_is, below, above, offering_is_lawful, working_is_lawful}
 use Rattle.synod.specs.Played.{tables_of, answer_to, after_call, answers_to, after_calls}
 use Rattle.synod.specs.Ballots.{Counted, Decided, OneValue, ValuesStay}
 
 -- one call: values of ballots stay, since only ballots without a value are fixed
-instances_keep_values : (before : Synod) (number step ballot set : ℕ) → number < numbers → (outcome : Option Instance) → worked before.wins (lists_of before) before.instances number step ballot set ≡ outcome
+instances_keep_values : (before : Synod) (number step ballot set : ℕ) → number < numbers → (outcome : Option Instance) → worked_at before.wins (lists_of before) before.instances number step ballot set ≡ outcome
     → (other b value : ℕ) → value_at (instance_at before.instances other) b ≡ Some value → value_at (instance_at (instances_with outcome before.instances number) other) b ≡ Some value
 instances_keep_values before number step ballot set inside None is other b value fixed = fixed
 instances_keep_values before number step ballot set inside (Some y) is other b value fixed =
-    let (first, last, step_is) = worked_is before.wins (lists_of before) before.instances number step ballot set y is in
+    let (first, last, step_is) = worked_is (instance_at before.instances number) (offers_at (lists_of before) number) step ballot set (won before.wins set) y is in
     ⊎_elim
     (λ same.
     let here : instance_at (slice_set before.instances number y) other ≡ y = rw same (get_or-set_same before.instances number y no_instance (omega (arith, before.sixteen_instances))) in
@@ -80,8 +80,8 @@ common_value (Some v) b some = (v, refl, ∥∥₁_elim some (Prim.hlevel props)
 -- a count that is taken decides the ballot's value
 count_decides : (before after : Synod) (number ballot set : ℕ) → number < numbers → SynodWorked before number 4 ballot set (Ok tt) after → Decided after number ballot
 count_decides before after number ballot set inside done =
-    let (y, is) = taken_changes (worked before.wins (lists_of before) before.instances number 4 ballot set) (done.answered ∙ below number _ _ inside) in
-    let (first, last, step_is) = worked_is before.wins (lists_of before) before.instances number 4 ballot set y is in
+    let (y, is) = taken_changes (worked_at before.wins (lists_of before) before.instances number 4 ballot set) (done.answered ∙ below number _ _ inside) in
+    let (first, last, step_is) = worked_is (instance_at before.instances number) (offers_at (lists_of before) number) 4 ballot set (won before.wins set) y is in
     let changed : after.instances ≡ slice_set before.instances number y = done.changed ∙ below number _ _ inside ∙ ap (λ outcome. instances_with outcome before.instances number) is in
     let here : instance_at after.instances number ≡ y =
     ap (λ xs. instance_at xs number) changed ∙ get_or-set_same before.instances number y no_instance (omega (arith, before.sixteen_instances)) in

@@ -9,9 +9,9 @@ use Rattle.chooser.specs.Limits.{numbers}
 use Rattle.chooser.specs.Listed.{listed}
 use Rattle.chooser.specs.Meaning.{offers_at}
 use Rattle.quorum.specs.Sets.{Share}
-use Rattle.synod.specs.Board.{acceptors}
-use Rattle.synod.specs.Instance.{blank}
-use Rattle.synod.specs.KeptLaws.{blank_is_kept}
+use Rattle.ballots.specs.Board.{acceptors}
+use Rattle.ballots.specs.Instance.{blank}
+use Rattle.ballots.proofs.KeptLaws.{blank_is_kept}
 use Rattle.synod.specs.Invariant.{won, no_instance, instance_at, NeverApart, AllKept}
 
 -- a set that wins by the answers wins by the rule

@@ -3,9 +3,9 @@ use Rattle.std.specs.Prelude.{◌≡◌, ℕ, ◌<◌, Bool, true, false, List, 
 use Rattle.chooser.specs.Limits.{numbers}
 use Rattle.chooser.specs.Meaning.{OfferLists, offers_at}
 use Rattle.quorum.specs.Sets.{Share}
-use Rattle.synod.specs.declared.instance.Instance.{Instance}
-use Rattle.synod.specs.Board.{acceptors}
-use Rattle.synod.specs.Kept.{Kept}
+use Rattle.ballots.specs.declared.instance.Instance.{Instance}
+use Rattle.ballots.specs.Board.{acceptors}
+use Rattle.ballots.specs.Kept.{Kept}
 
 -- the rule's answer for a set
 abbrev pub won : List Bool → ℕ → Bool

@@ -1,9 +1,3 @@
-pub mod Board
-pub mod Safety
-pub mod Instance
-pub mod Kept
-pub mod Members
-pub mod KeptLaws
 pub mod Invariant
 pub mod Meeting
 pub mod Synod

@@ -5,10 +5,10 @@ use Rattle.chooser.specs.declared.calls.Call.TheVariants.{Offer, Work}
 use Rattle.chooser.specs.declared.refusal.ChooserRefusal.TheVariants.{TooHigh}
 use Rattle.chooser.specs.Limits.{numbers}
 use Rattle.chooser.specs.Meaning.{OfferLists, Answer, offer_answer, lists_with}
-use Rattle.synod.specs.declared.instance.Instance.{Instance}
+use Rattle.ballots.specs.declared.instance.Instance.{Instance}
 use Rattle.synod.specs.declared.synod.Synod.{Synod}
-use Rattle.synod.specs.Instance.{answer_of}
-use Rattle.synod.specs.Synod.{lists_of, worked, instances_with}
+use Rattle.ballots.specs.Instance.{answer_of}
+use Rattle.synod.specs.Synod.{lists_of, worked_at, instances_with}
 
 -- all that a synod keeps: the rule's answers, the offers, the instances
 pub record Tables : Type 0 where
@@ -23,13 +23,13 @@ tables_of synod = record { wins = synod.wins; lists = lists_of synod; instances 
 abbrev pub answer_to : Tables → Call → Answer
 answer_to t (Offer number value) = offer_answer t.lists number
 answer_to t (Work number step ballot set) =
-    if nat_lt number numbers then answer_of (worked t.wins t.lists t.instances number step ballot set) else Err TooHigh
+    if nat_lt number numbers then answer_of (worked_at t.wins t.lists t.instances number step ballot set) else Err TooHigh
 
 -- what it leaves
 abbrev pub after_call : Tables → Call → Tables
 after_call t (Offer number value) = record t { lists = lists_with (offer_answer t.lists number) t.lists number value }
 after_call t (Work number step ballot set) =
-    record t { instances = if nat_lt number numbers then instances_with (worked t.wins t.lists t.instances number step ballot set) t.instances number else t.instances }
+    record t { instances = if nat_lt number numbers then instances_with (worked_at t.wins t.lists t.instances number step ballot set) t.instances number else t.instances }
 
 -- the same of calls one after the other
 abbrev pub answers_to : Tables → List Call → List (Option Answer)

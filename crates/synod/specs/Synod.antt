@@ -4,9 +4,9 @@ use Rattle.chooser.specs.declared.refusal.ChooserRefusal.TheVariants.{TooHigh}
 use Rattle.chooser.specs.Limits.{numbers}
 use Rattle.chooser.specs.Listed.{listed}
 use Rattle.chooser.specs.Meaning.{OfferLists, Decisions, Answer, offers_at, offer_answer, lists_with}
-use Rattle.synod.specs.declared.instance.Instance.{Instance}
+use Rattle.ballots.specs.declared.instance.Instance.{Instance}
 use Rattle.synod.specs.declared.synod.Synod.{Synod}
-use Rattle.synod.specs.Instance.{within, value_at, work_step, answer_of}
+use Rattle.ballots.specs.Instance.{value_at, worked, answer_of}
 use Rattle.synod.specs.Invariant.{won, instance_at}
 
 -- the offers of a synod
@@ -28,10 +28,10 @@ pub record SynodOffered (before : Synod) (number value : ℕ) (answer : Answer) 
   pub instances_stay : after.instances ≡ before.instances
   pub wins_stay : after.wins ≡ before.wins
 
--- The instance of a number after a step of work; none if the step is not allowed, or there is no such ballot or set.
-abbrev pub worked : List Bool → OfferLists → List Instance → ℕ → ℕ → ℕ → ℕ → Option Instance
-worked wins lists instances number step ballot set =
-    if within ballot set then work_step (instance_at instances number) (offers_at lists number) step ballot set (won wins set) else None
+-- The instance of a number after work on it, for a set that wins by the rule's answer; none if the step is not allowed.
+abbrev pub worked_at : List Bool → OfferLists → List Instance → ℕ → ℕ → ℕ → ℕ → Option Instance
+worked_at wins lists instances number step ballot set =
+    worked (instance_at instances number) (offers_at lists number) step ballot set (won wins set)
 
 -- the instances with that of the number changed, if it is
 abbrev pub instances_with : Option Instance → List Instance → ℕ → List Instance
@@ -40,7 +40,7 @@ instances_with (Some after) instances number = slice_set instances number after
 
 -- Work: refused with 1 above the last number, with 3 if the step is not allowed; else the number's instance changes. Nothing else does.
 pub record SynodWorked (before : Synod) (number step ballot set : ℕ) (answer : Answer) (after : Synod) : Type 0 where
-  pub answered : answer ≡ (if nat_lt number numbers then answer_of (worked before.wins (lists_of before) before.instances number step ballot set) else Err TooHigh)
-  pub changed : after.instances ≡ (if nat_lt number numbers then instances_with (worked before.wins (lists_of before) before.instances number step ballot set) before.instances number else before.instances)
+  pub answered : answer ≡ (if nat_lt number numbers then answer_of (worked_at before.wins (lists_of before) before.instances number step ballot set) else Err TooHigh)
+  pub changed : after.instances ≡ (if nat_lt number numbers then instances_with (worked_at before.wins (lists_of before) before.instances number step ballot set) before.instances number else before.instances)
   pub offers_stay : lists_of after ≡ lists_of before
   pub wins_stay : after.wins ≡ before.wins

@@ -1,5 +1,5 @@
 -- The synod keeps the laws of choosers.
-use Rattle.std.specs.Prelude.{◌≡◌, ℕ, zero, suc, ◌<◌, ◌≤◌, ◌⊎◌, Bool, true, false, nat_lt, if◌then◌else◌, List, [], ◌∷◌, length, Option, Some, None, Ok, Err, refl}
+use Rattle.std.specs.Prelude.{◌≡◌, ℕ, zero, suc, ◌<◌, ◌≤◌, ◌⊎◌, true, nat_lt, if◌then◌else◌, List, [], ◌∷◌, length, Option, Some, None, Ok, Err, refl}
 use Rattle.std.proofs.Common.{sym, ap, ◌∙◌, inl, inr, ⊎_elim, arith}
 use Rattle.std.proofs.Math.Logic.{∥∥₁_elim}
 use Rattle.std.proofs.Props.{props}
@@ -9,16 +9,16 @@ use Rattle.std.proofs.lemmas.List.{length-map, map-set, get_or_past}
 use Rattle.chooser.specs.declared.refusal.ChooserRefusal.TheVariants.{TooHigh, NotAllowed}
 use Rattle.chooser.specs.Limits.{numbers, most_offers, highest_offer}
 use Rattle.chooser.specs.Listed.{listed}
-use Rattle.chooser.specs.Meaning.{OfferLists, Answer, offers_at, decision_at, one_of, lists_with}
+use Rattle.chooser.specs.Meaning.{Answer, offers_at, decision_at, one_of, lists_with}
 use Rattle.chooser.specs.Laws.{Deciding, Offered, Worked}
 use Rattle.chooser.specs.Deciding.{nothing_decided, one_decided, under_each, listed_few, listed_bytes}
-use Rattle.synod.specs.declared.instance.Instance.{Instance}
+use Rattle.ballots.specs.declared.instance.Instance.{Instance}
 use Rattle.synod.specs.declared.synod.Synod.{Synod}
-use Rattle.synod.specs.Instance.{last_ballot, within, work_step, answer_of}
+use Rattle.ballots.specs.Instance.{answer_of}
 use Rattle.synod.specs.Invariant.{won, instance_at}
-use Rattle.synod.specs.KeptLaws.{decided_is_among, work_keeps_decision}
+use Rattle.ballots.proofs.KeptLaws.{decided_is_among, worked_is, work_keeps_decision}
 use Rattle.synod.specs.Meeting.{meeting}
-use Rattle.synod.specs.Synod.{lists_of, decisions_of, worked, instances_with, SynodOffered, SynodWorked}
+use Rattle.synod.specs.Synod.{lists_of, decisions_of, worked_at, instances_with, SynodOffered, SynodWorked}
 
 pub sixteen_decisions : (synod : Synod) → length (decisions_of synod.instances) ≡ numbers
 sixteen_decisions synod = length-map synod.instances (λ (x : Instance). x.decision) ∙ synod.sixteen_instances
@@ -58,18 +58,6 @@ offering_is_lawful before after number value answer offered = record {
   deciding = rw offered.instances_stay (nothing_decided (decisions_of before.instances) number answer);
 }
 
--- what is taken under a condition is taken, and the condition holds
-under : (holds : Bool) (outcome : Option Instance) (y : Instance) → (if holds then outcome else None) ≡ Some y → (holds ≡ true) × (outcome ≡ Some y)
-under true outcome y is = (refl, is)
-under false outcome y is = absurd cc
-
--- what is allowed is a step on a ballot from 1 to 15
-pub worked_is : (wins : List Bool) (lists : OfferLists) (instances : List Instance) (number step ballot set : ℕ) (y : Instance) → worked wins lists instances number step ballot set ≡ Some y
-    → (1 ≤ ballot) × (ballot ≤ last_ballot) × (work_step (instance_at instances number) (offers_at lists number) step ballot set (won wins set) ≡ Some y)
-worked_is wins lists instances number step ballot set y is =
-    let (within, step_is) = under (within ballot set) _ y is in
-    (grind (arith, nat_tests), grind (arith, nat_tests), step_is)
-
 -- a number has a place, or lies above
 pub below : {A : Type 0} (number : ℕ) (a b : A) → number < numbers → (if nat_lt number numbers then a else b) ≡ a
 below number a b inside = grind (arith, nat_tests)
@@ -83,11 +71,11 @@ answer_is (Some y) = inl refl
 
 module _ (synod : Synod) (number step ballot set : ℕ) (inside : number < numbers) where
   -- a decision that stands stays
-  deciding_by : (outcome : Option Instance) → worked synod.wins (lists_of synod) synod.instances number step ballot set ≡ outcome
+  deciding_by : (outcome : Option Instance) → worked_at synod.wins (lists_of synod) synod.instances number step ballot set ≡ outcome
       → Deciding (decisions_of synod.instances) number (answer_of outcome) (decisions_of (instances_with outcome synod.instances number))
   deciding_by None is = nothing_decided (decisions_of synod.instances) number (Err NotAllowed)
   deciding_by (Some y) is =
-      let (first, last, step_is) = worked_is synod.wins (lists_of synod) synod.instances number step ballot set y is in
+      let (first, last, step_is) = worked_is (instance_at synod.instances number) (offers_at (lists_of synod) number) step ballot set (won synod.wins set) y is in
       one_decided (decisions_of synod.instances) _ number y.decision (omega (arith, sixteen_decisions synod))
       (map-set (λ (x : Instance). x.decision) synod.instances number y)
       (λ value stands.
@@ -98,7 +86,7 @@ module _ (synod : Synod) (number step ballot set : ℕ) (inside : number < numbe
 pub working_is_lawful : (before after : Synod) (number step ballot set : ℕ) (answer : Answer) → SynodWorked before number step ballot set answer after
     → Worked (decisions_of before.instances) (lists_of before) number answer (decisions_of after.instances) (lists_of after)
 working_is_lawful before after number step ballot set answer done =
-    let outcome = worked before.wins (lists_of before) before.instances number step ballot set in
+    let outcome = worked_at before.wins (lists_of before) before.instances number step ballot set in
     ⊎_elim
     (λ inside.
     let answered : answer ≡ answer_of outcome = done.answered ∙ below number _ _ inside in

@@ -4,12 +4,10 @@ ghost use Rattle.std.specs.List.{range_with_len};
 ghost use Rattle.chooser.specs.Limits.{numbers};
 ghost use Rattle.chooser.specs.Listed.{listed};
 ghost use Rattle.quorum.specs.Sets.{everyone as all_places};
-ghost use Rattle.synod.specs.Board.{acceptors};
+ghost use Rattle.ballots.specs.Board.{acceptors};
 ghost use Rattle.synod.specs.Invariant.{won, NeverApart, AllKept};
 
-use crate::ACCEPTORS;
-use crate::instance::Instance;
-use crate::sets::within;
+use ballots::{ACCEPTORS, Instance};
 use chooser::{Chooser, ChooserRefusal, NUMBERS, Offers};
 use quorum::QuorumRule;
 
@@ -29,7 +27,7 @@ pub struct Synod {
 
 impl Synod {
     ghost use Rattle.std.specs.Prelude.{[], replicate};
-    ghost use Rattle.synod.specs.Instance.{blank};
+    ghost use Rattle.ballots.specs.Instance.{blank};
     ghost use Rattle.synod.specs.Synod.{lists_of, ballot_value};
 
     /// A synod by this rule, which is asked about each set of five now and never again.
@@ -50,6 +48,13 @@ impl Synod {
         ensures { result ≡ ballot_value self.now number ballot }
     {
         self.instances.get(usize::from(number))?.value(ballot)
+    }
+
+    // Whether the set wins, as the rule answered; no set wins that has others than the five.
+    fn wins(&self, set: u8) -> bool
+        ensures { result ≡ won self.now.wins set }
+    {
+        self.wins.get(usize::from(set)).copied().unwrap_or(false)
     }
 }
 
@@ -101,10 +106,7 @@ impl Chooser for Synod {
         if number >= NUMBERS {
             return Err(ChooserRefusal::TooHigh);
         }
-        if !within(ballot, set) {
-            return Err(ChooserRefusal::NotAllowed);
-        }
-        let wins = self.wins[usize::from(set)];
+        let wins = self.wins(set);
         let offers = self.offers[usize::from(number)];
         self.instances[usize::from(number)].work(step, ballot, set, wins, offers.as_slice())
     }

@@ -2,7 +2,7 @@ use Rattle.std.proofs.Common.{map, false, sym, ◌∙◌, arith, get_or-set_othe
 use Rattle.std.specs.List.{range_with_len}
 use Rattle.std.proofs.lemmas.List.{ext_get_or, length-set}
 use Rattle.std.proofs.lemmas.List.FromFn.{length-map-range_with_len, get_or-map-range_with_len}
-use Rattle.synod.specs.Board.{acceptors}
+use Rattle.ballots.specs.Board.{acceptors}
 use Rattle.synod.proofs.synod.answers.Goals as goal
 
 pub loop-set-preserved : goal.loop-set-preserved

@@ -4,7 +4,7 @@ use Rattle.std.proofs.lemmas.List.FromFn.{length-map-range_with_len}
 use Rattle.chooser.specs.Limits.{numbers}
 use Rattle.chooser.specs.Listed.{listed}
 use Rattle.quorum.specs.Sets.{everyone}
-use Rattle.synod.specs.Board.{acceptors}
+use Rattle.ballots.specs.Board.{acceptors}
 use Rattle.synod.specs.Invariant.{won, AllKept}
 use Rattle.synod.proofs.Start.{start_never_apart, start_all_kept}
 use Rattle.synod.proofs.synod.Synod.new.Goals as goal

@@ -1,6 +1,6 @@
 //! Ballots and sets of acceptors.
 ghost use Rattle.std.specs.Prelude.{◌≡◌};
-ghost use Rattle.synod.specs.Instance.{sole, within};
+ghost use Rattle.ballots.specs.Instance.{sole, within};
 
 use crate::{ACCEPTORS, LAST_BALLOT};
 

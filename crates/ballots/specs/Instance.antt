@@ -4,9 +4,9 @@ use Rattle.std.specs.List.{enumerate_from, list_all, fold}
 use Rattle.chooser.specs.declared.refusal.ChooserRefusal.TheVariants.{NotAllowed}
 use Rattle.chooser.specs.Meaning.{Answer}
 use Rattle.quorum.specs.Sets.{member}
-use Rattle.synod.specs.declared.instance.Acceptor.{Acceptor}
-use Rattle.synod.specs.declared.instance.Instance.{Instance}
-use Rattle.synod.specs.Board.{acceptors, owner}
+use Rattle.ballots.specs.declared.instance.Acceptor.{Acceptor}
+use Rattle.ballots.specs.declared.instance.Instance.{Instance}
+use Rattle.ballots.specs.Board.{acceptors, owner}
 
 -- the highest ballot
 abbrev pub last_ballot : ℕ
@@ -95,13 +95,17 @@ abbrev pub count_step : Instance → ℕ → ℕ → Bool → Option Instance
 count_step x ballot set wins =
     if all_accepted x ballot set && wins then Some (record x { decision = value_at x ballot }) else None
 
--- The instance after a step of work; none if the step is not allowed.
+-- The instance after a step; none if the step is not allowed.
 abbrev pub work_step : Instance → List ℕ → ℕ → ℕ → ℕ → Bool → Option Instance
 work_step x offers step ballot set wins =
     if step == 1 then promise_step x offers ballot set else
     if step == 2 then fix_step x offers ballot set wins else
     if step == 3 then accept_step x ballot set else
     if step == 4 then count_step x ballot set wins else None
+
+-- Work: a step on a ballot from 1 to 15, for a set of the five acceptors; none if it is not allowed.
+abbrev pub worked : Instance → List ℕ → ℕ → ℕ → ℕ → Bool → Option Instance
+worked x offers step ballot set wins = if within ballot set then work_step x offers step ballot set wins else None
 
 -- what is answered: taken if the step is allowed, else refused with 3
 abbrev pub answer_of : Option Instance → Answer

@@ -1,23 +1,24 @@
 //! What is kept under one number, and the four steps that change it.
-ghost use Rattle.std.specs.Prelude.{◌≡◌, ◌<◌};
-ghost use Rattle.synod.specs.Board.{owner};
-ghost use Rattle.synod.specs.Instance.{blank, value_at, highest_accepted, value_for, all_promised, all_accepted, promise_step, fix_step, accept_step, count_step, work_step, answer_of, or_same};
+ghost use Rattle.std.specs.Prelude.{◌≡◌, ◌≤◌};
+ghost use Rattle.ballots.specs.Board.{owner};
+ghost use Rattle.ballots.specs.Instance.{blank, value_at, highest_accepted, value_for, all_promised, all_accepted, promise_step, fix_step, accept_step, count_step, work_step, worked, last_ballot, answer_of, or_same};
+ghost use Rattle.ballots.specs.Kept.{StaysKept};
 
-use crate::sets::sole;
+use crate::sets::{sole, within};
 use crate::{ACCEPTORS, LAST_BALLOT};
 use chooser::{ChooserRefusal, MOST_OFFERS};
 use quorum::member;
 
 /// What an acceptor keeps: the ballot that it promised and the one that it accepted last, 0 for none.
 #[derive(Clone, Copy, Debug, PartialEq, Eq)]
-pub(crate) struct Acceptor {
+pub struct Acceptor {
     promised: u8,
     accepted: u8,
 }
 
 /// What is kept under one number: the acceptors, the value of each ballot that is fixed, the decision.
 #[derive(Clone, Copy, Debug, PartialEq, Eq)]
-pub(crate) struct Instance {
+pub struct Instance {
     acceptors: [Acceptor; ACCEPTORS],
     values: [Option<u8>; LAST_BALLOT as usize + 1],
     decision: Option<u8>,
@@ -25,7 +26,7 @@ pub(crate) struct Instance {
 
 impl Instance {
     /// Nobody has promised anything.
-    pub(crate) fn new() -> Instance
+    pub fn new() -> Instance
         ensures { result ≡ blank }
     {
         let acceptor = Acceptor {
@@ -40,21 +41,21 @@ impl Instance {
     }
 
     /// What is decided.
-    pub(crate) fn decision(&self) -> Option<u8>
+    pub fn decision(&self) -> Option<u8>
         ensures { result ≡ self.now.decision }
     {
         self.decision
     }
 
     /// The value of a ballot, if it is fixed.
-    pub(crate) fn value(&self, ballot: u8) -> Option<u8>
+    pub fn value(&self, ballot: u8) -> Option<u8>
         ensures { result ≡ value_at self.now ballot }
     {
         self.values.get(usize::from(ballot)).copied().flatten()
     }
 
-    /// A step of work on a ballot; `wins` says whether the set does.
-    pub(crate) fn work(
+    /// A step of work on a ballot, for a set of acceptors; `wins` says whether the set does, by the rule that the host goes by.
+    pub fn work(
         &mut self,
         step: u8,
         ballot: u8,
@@ -62,7 +63,26 @@ impl Instance {
         wins: bool,
         offers: &[u8],
     ) -> Result<(), ChooserRefusal>
-        requires { ballot < 16 }
+        ensures answered { result ≡ answer_of (worked self.old offers.now step ballot set wins) }
+        ensures after { self.new ≡ or_same (worked self.old offers.now step ballot set wins) self.old }
+        ensures stays_kept { StaysKept self.old offers.now set wins self.new }
+    {
+        if !within(ballot, set) {
+            return Err(ChooserRefusal::NotAllowed);
+        }
+        self.make(step, ballot, set, wins, offers)
+    }
+
+    // One of the four steps, by its number.
+    fn make(
+        &mut self,
+        step: u8,
+        ballot: u8,
+        set: u8,
+        wins: bool,
+        offers: &[u8],
+    ) -> Result<(), ChooserRefusal>
+        requires { ballot ≤ last_ballot }
         ensures answered { result ≡ answer_of (work_step self.old offers.now step ballot set wins) }
         ensures after { self.new ≡ or_same (work_step self.old offers.now step ballot set wins) self.old }
     {
@@ -90,7 +110,7 @@ impl Instance {
 
     // Step 2: a winning set that has promised the ballot fixes its value.
     fn fix(&mut self, ballot: u8, set: u8, wins: bool, offers: &[u8]) -> Result<(), ChooserRefusal>
-        requires { ballot < 16 }
+        requires { ballot ≤ last_ballot }
         ensures answered { result ≡ answer_of (fix_step self.old offers.now ballot set wins) }
         ensures after { self.new ≡ or_same (fix_step self.old offers.now ballot set wins) self.old }
     {
@@ -104,7 +124,7 @@ impl Instance {
 
     // Step 3: one acceptor accepts a fixed ballot that is not below its promise.
     fn accept(&mut self, ballot: u8, set: u8) -> Result<(), ChooserRefusal>
-        requires { ballot < 16 }
+        requires { ballot ≤ last_ballot }
         ensures answered { result ≡ answer_of (accept_step self.old ballot set) }
         ensures after { self.new ≡ or_same (accept_step self.old ballot set) self.old }
     {
@@ -122,7 +142,7 @@ impl Instance {
 
     // Step 4: a winning set that accepted the ballot last decides its value.
     fn count(&mut self, ballot: u8, set: u8, wins: bool) -> Result<(), ChooserRefusal>
-        requires { ballot < 16 }
+        requires { ballot ≤ last_ballot }
         ensures answered { result ≡ answer_of (count_step self.old ballot set wins) }
         ensures after { self.new ≡ or_same (count_step self.old ballot set wins) self.old }
     {

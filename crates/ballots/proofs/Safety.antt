@@ -6,7 +6,7 @@ use Rattle.std.proofs.lemmas.List.{length_push}
 use Rattle.std.proofs.lemmas.List.Folds.{list_any-append}
 use Rattle.chooser.specs.Meaning.{one_of}
 use Rattle.quorum.specs.Sets.{everyone}
-use Rattle.synod.specs.Board.{acceptors, owner, Board, Each, Meet, Dead, Backed, Chosen, Sound, Moved, with_acceptors, with_value, with_offers, with_decision}
+use Rattle.ballots.specs.Board.{acceptors, owner, Board, Each, Meet, Dead, Backed, Chosen, Sound, Moved, with_acceptors, with_value, with_offers, with_decision}
 
 -- None is not there, and the other form has a value.
 some_has_value : (option : Option ℕ) → is_some option ≡ true → (v : ℕ) × (option ≡ Some v)

@@ -4,9 +4,9 @@ use Rattle.std.specs.List.{enumerate_from, list_all, fold}
 use Rattle.std.proofs.Common.{zero-add, arith}
 use Rattle.std.proofs.lemmas.Bool.{eqb-true}
 use Rattle.quorum.specs.Sets.{member}
-use Rattle.synod.specs.declared.instance.Instance.{Instance}
-use Rattle.synod.specs.Board.{acceptors, Each}
-use Rattle.synod.specs.Instance.{fresh, acceptor_at, all_promised, all_accepted, highest_accepted}
+use Rattle.ballots.specs.declared.instance.Instance.{Instance}
+use Rattle.ballots.specs.Board.{acceptors, Each}
+use Rattle.ballots.specs.Instance.{fresh, acceptor_at, all_promised, all_accepted, highest_accepted}
 
 -- Those of some items that are inside, each with its place, the first at a given place.
 module _ {X : Type 0} (default : X) (inside : ℕ → Bool) where

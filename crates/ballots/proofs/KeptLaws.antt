@@ -1,19 +1,20 @@
 -- Whatever happens to an instance, it stays kept, its decision stays, and what is decided is one of the offers.
-use Rattle.std.specs.Prelude.{◌≡◌, ℕ, ◌+◌, ◌<◌, ◌≤◌, ◌≢◌, Bool, true, not, ◌&&◌, ◌||◌, ◌==◌, ◌⊎◌, if◌then◌else◌, List, [], ◌∷◌, ◌++◌, length, replicate, slice_set, get_or, Option, Some, None, is_some, refl}
+use Rattle.std.specs.Prelude.{◌≡◌, ℕ, ◌+◌, ◌<◌, ◌≤◌, ◌≢◌, Bool, true, false, not, ◌&&◌, ◌||◌, ◌==◌, ◌⊎◌, if◌then◌else◌, List, [], ◌∷◌, ◌++◌, length, replicate, slice_set, get_or, Option, Some, None, is_some, refl}
 use Rattle.std.proofs.Common.{◌∙◌, inl, inr, ⊎_elim, arith}
 use Rattle.std.proofs.lemmas.Bool.{cases_eq}
+use Rattle.std.proofs.lemmas.Bool.Decides.{nat_tests}
 use Rattle.std.proofs.lemmas.List.{get_or-replicate, get_or_past, get_or-set_same, get_or-set_other, length-set, length-replicate}
 use Rattle.std.proofs.lemmas.List.Folds.{list_any_at}
 use Rattle.std.proofs.lemmas.Option.{slice_get-get_or}
 use Rattle.chooser.specs.Meaning.{one_of}
 use Rattle.quorum.specs.Sets.{everyone}
-use Rattle.synod.specs.declared.instance.Acceptor.{Acceptor}
-use Rattle.synod.specs.declared.instance.Instance.{Instance}
-use Rattle.synod.specs.Board.{acceptors, owner, Each, Meet}
-use Rattle.synod.specs.Safety.{moves_keep_sound, fixing_keeps_sound, counting_keeps_sound, counting_keeps_decision, counted_is_fixed, offering_keeps_sound, decided_is_offered}
-use Rattle.synod.specs.Instance.{last_ballot, fresh, blank, acceptor_at, value_at, highest_accepted, sole, promise_by, value_for, fix_step, accept_by, count_step, work_step}
-use Rattle.synod.specs.Kept.{board, Kept}
-use Rattle.synod.specs.Members.{promised_by_each, accepted_by_each, accepted_below_highest, highest_accepted_passes}
+use Rattle.ballots.specs.declared.instance.Acceptor.{Acceptor}
+use Rattle.ballots.specs.declared.instance.Instance.{Instance}
+use Rattle.ballots.specs.Board.{acceptors, owner, Each, Meet}
+use Rattle.ballots.proofs.Safety.{moves_keep_sound, fixing_keeps_sound, counting_keeps_sound, counting_keeps_decision, counted_is_fixed, offering_keeps_sound, decided_is_offered}
+use Rattle.ballots.specs.Instance.{last_ballot, fresh, blank, acceptor_at, value_at, highest_accepted, sole, promise_by, value_for, fix_step, accept_by, count_step, work_step, within, worked, or_same}
+use Rattle.ballots.specs.Kept.{board, Kept, StaysKept}
+use Rattle.ballots.proofs.Members.{promised_by_each, accepted_by_each, accepted_below_highest, highest_accepted_passes}
 
 -- Copies of the default are the default at any place, also past their end.
 copies_everywhere : {X : Type 0} (count place : ℕ) (copy : X) → get_or (replicate count copy) place copy ≡ copy
@@ -213,3 +214,23 @@ module _ {fixing counting : ℕ → Bool} {offers : List ℕ} {x : Instance} (ke
       accept_keeps_rest x offers ballot set wins y (sole set),
       count_keeps_decision,
     )
+
+-- What is taken under a condition is taken, and the condition holds.
+under : (holds : Bool) (outcome : Option Instance) (y : Instance) → (if holds then outcome else None) ≡ Some y → (holds ≡ true) × (outcome ≡ Some y)
+under true outcome y is = (refl, is)
+under false outcome y is = absurd cc
+
+-- Work that is taken is a step on a ballot from 1 to 15.
+pub worked_is : (x : Instance) (offers : List ℕ) (step ballot set : ℕ) (wins : Bool) (y : Instance) → worked x offers step ballot set wins ≡ Some y
+    → (1 ≤ ballot) × (ballot ≤ last_ballot) × (work_step x offers step ballot set wins ≡ Some y)
+worked_is x offers step ballot set wins y is =
+    let (is_within, step_is) = under (within ballot set) _ y is in
+    (grind (arith, nat_tests), grind (arith, nat_tests), step_is)
+
+-- So work keeps the instance, whether it is taken or not.
+pub work_stays_kept : (x : Instance) (offers : List ℕ) (step ballot set : ℕ) (wins : Bool) (outcome : Option Instance) → worked x offers step ballot set wins ≡ outcome
+    → StaysKept x offers set wins (or_same outcome x)
+work_stays_kept x offers step ballot set wins None is fixing counting meet all_fix all_count fixes counts kept = kept
+work_stays_kept x offers step ballot set wins (Some y) is fixing counting meet all_fix all_count fixes counts kept =
+    let (first, last, step_is) = worked_is x offers step ballot set wins y is in
+    work_is_kept kept meet all_fix all_count ballot set wins fixes counts first last y step step_is

@@ -1,0 +1,3 @@
+pub mod Safety
+pub mod Members
+pub mod KeptLaws

@@ -1,0 +1,3 @@
+pub mod Board
+pub mod Instance
+pub mod Kept
