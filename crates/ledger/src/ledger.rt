@@ -5,9 +5,10 @@ ghost use Rattle.chooser.specs.Limits.{numbers};
 use chooser::{Chooser, ChooserRefusal, NUMBERS, Offers};
 
 /// The first offer under a number is decided at once. No step of work is allowed.
-#[derive(Clone, Copy, Debug, PartialEq, Eq)]
+/// A chooser is not `Copy`: two copies of one could decide two values.
+#[derive(Debug, PartialEq, Eq, Drop)]
 pub struct Ledger {
-    offers: [Offers; 16],
+    offers: [Offers; NUMBERS as usize],
     ghost sixteen: { length offers ≡ numbers },
 }
 
@@ -20,7 +21,7 @@ impl Ledger {
         ensures { lists_of result ≡ replicate numbers [] }
     {
         Ledger {
-            offers: [Offers::new(); 16],
+            offers: [Offers::new(); NUMBERS as usize],
         }
     }
 }

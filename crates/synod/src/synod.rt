@@ -11,8 +11,8 @@ use ballots::{ACCEPTORS, Instance};
 use chooser::{Chooser, ChooserRefusal, NUMBERS, Offers};
 use quorum::QuorumRule;
 
-/// A value under a number is decided once a winning set of the number's five acceptors has accepted one ballot last.
-#[derive(Clone, Copy, Debug, PartialEq, Eq)]
+/// The value of a ballot is decided under its number once a winning set of the number's five acceptors has accepted that ballot last.
+#[derive(Debug, PartialEq, Eq, Drop)]
 pub struct Synod {
     wins: [bool; 1 << ACCEPTORS],
     offers: [Offers; NUMBERS as usize],
