@@ -3,5 +3,6 @@ pub mod Refusals
 pub mod Meaning
 pub mod Laws
 pub mod Listed
+pub mod TableLaws
 pub mod Deciding
 pub mod Runs

@@ -11,7 +11,7 @@ mod offers;
 mod refusal;
 
 pub use calls::{Call, Turn, make, play};
-pub use offers::Offers;
+pub use offers::{OfferTable, Offers};
 pub use refusal::ChooserRefusal;
 
 /// How many numbers a chooser decides: 0 to 15.

@@ -3,12 +3,12 @@ use Rattle.std.specs.Prelude.{◌≡◌, ℕ, nat_lt, if◌then◌else◌, List,
 use Rattle.chooser.specs.declared.refusal.ChooserRefusal.TheVariants.{TooHigh, NotAllowed}
 use Rattle.chooser.specs.Limits.{numbers}
 use Rattle.chooser.specs.Meaning.{OfferLists, Decisions, Answer, offer_answer, lists_with}
-use Rattle.chooser.specs.Listed.{listed}
-use Rattle.ledger.specs.declared.ledger.Ledger.{Ledger}
+use Rattle.chooser.specs.Listed.{lists_of}
+use Rattle.ledger.specs.declared.Ledger.{Ledger}
 
 -- the offers of a ledger
-abbrev pub lists_of : Ledger → OfferLists
-lists_of ledger = map listed ledger.offers
+abbrev pub ledger_lists : Ledger → OfferLists
+ledger_lists ledger = lists_of ledger.offers
 
 -- the first offer
 abbrev pub first_of : List ℕ → Option ℕ
