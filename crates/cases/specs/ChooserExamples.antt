@@ -12,8 +12,8 @@ use Rattle.quorum.specs.Rules.{more_than_half}
 use Rattle.ballots.specs.Board.{acceptors}
 use Rattle.ballots.specs.Instance.{blank, value_at}
 use Rattle.synod.specs.Invariant.{instance_at}
-use Rattle.synod.specs.Synod.{decisions_of}
-use Rattle.synod.specs.Played.{Tables, answers_to, after_calls}
+use Rattle.synod.specs.Synod.{Tables, decisions_of}
+use Rattle.synod.specs.Played.{answers_to, after_calls}
 
 -- offers under number 0, one after the other
 abbrev pub lists_after : List ℕ → OfferLists → OfferLists

@@ -1,22 +1,23 @@
 -- A change of one number keeps all numbers.
-use Rattle.std.proofs.Common.{◌≡◌, ℕ, ◌<◌, Bool, List, [], ◌∷◌, ◌++◌, map, length, slice_set, slice_index_or, Option, Some, None, Err, if◌then◌else◌, nat_lt, sym, ap, ◌∙◌, ⊎_elim, refl, arith}
+use Rattle.std.proofs.Common.{◌≡◌, ℕ, ◌<◌, Bool, List, [], length, slice_set, Option, Some, None, Ok, Err, ok_or, refl, sym, ap, ◌∙◌, ⊎_elim, arith}
 use Rattle.std.proofs.Math.Logic.{∥∥₁_map}
 use Rattle.std.proofs.lemmas.Bool.{cases_eq}
-use Rattle.std.proofs.lemmas.List.{get_or-map, get_or-set_same, get_or-set_other, set-get_or, map-set, length-map}
-use Rattle.chooser.specs.declared.offers.Offers.{Offers}
-use Rattle.chooser.specs.declared.refusal.ChooserRefusal.TheVariants.{TooHigh}
+use Rattle.std.proofs.lemmas.Bool.Decides.{nat_tests}
+use Rattle.std.proofs.lemmas.List.{get_or-set_same, get_or-set_other, set-get_or}
+use Rattle.chooser.specs.declared.refusal.ChooserRefusal.TheVariants.{NotAllowed}
 use Rattle.chooser.specs.Limits.{numbers}
-use Rattle.chooser.specs.Listed.{listed}
-use Rattle.chooser.specs.Meaning.{OfferLists, Answer, offers_at}
+use Rattle.chooser.specs.Listed.{lists_of}
+use Rattle.chooser.specs.Meaning.{OfferLists, Answer, offers_at, offer_answer, lists_with}
+use Rattle.chooser.specs.TableLaws.{sixteen_lists}
 use Rattle.ballots.specs.declared.instance.Instance.{Instance}
-use Rattle.synod.specs.declared.synod.Synod.{Synod}
 use Rattle.ballots.specs.Instance.{worked, answer_of, or_same}
 use Rattle.ballots.specs.Kept.{Kept, StaysKept}
 use Rattle.ballots.proofs.KeptLaws.{offering_is_kept}
+use Rattle.synod.specs.declared.synod.Synod.{Synod}
 use Rattle.synod.specs.Invariant.{won, no_instance, instance_at, AllKept}
 use Rattle.synod.specs.Meeting.{meeting}
-use Rattle.synod.specs.Synod.{lists_of, worked_at, instances_with}
-use Rattle.synod.specs.SynodLaws.{below}
+use Rattle.synod.specs.Synod.{tables_of, worked_at, taken, instances_with}
+use Rattle.synod.specs.SynodLaws.{choose_below}
 
 -- the number's new offers and instance are kept, the others are as before
 all_kept_with : (fixing counting : ℕ → Bool) (lists : OfferLists) (instances : List Instance) (number : ℕ) (offers : List ℕ) (x : Instance)
@@ -35,60 +36,48 @@ all_kept_with fixing counting lists instances number offers x all_lists all_inst
     rw (offers_there, there) (before other other_inside))
     (cases_eq other number)
 
--- an instance that stays is put back where it was
-set_or_same : (instances : List Instance) (number : ℕ) (outcome : Option Instance)
-    → slice_set instances number (or_same outcome (instance_at instances number)) ≡ instances_with outcome instances number
-set_or_same instances number None = set-get_or instances number no_instance
-set_or_same instances number (Some after) = refl
+-- an offer more, if it is taken
+pub offer_keeps_all : (synod : Synod) (number value : ℕ) (answer : Answer) → offer_answer (lists_of synod.offers) number ≡ answer
+    → AllKept (won synod.wins) (won synod.wins) (lists_with answer (lists_of synod.offers) number value) synod.instances
+offer_keeps_all synod number value (Err why) is = synod.all_kept
+offer_keeps_all synod number value (Ok _) is =
+    let lists = lists_of synod.offers in
+    let inside : number < numbers = grind (arith, nat_tests) in
+    let kept = ∥∥₁_map (synod.all_kept number inside) (λ k. offering_is_kept k value) in
+    let all = all_kept_with (won synod.wins) (won synod.wins) lists synod.instances number _ (instance_at synod.instances number)
+    (sixteen_lists synod.offers) synod.sixteen inside synod.all_kept kept in
+    let same : slice_set synod.instances number (instance_at synod.instances number) ≡ synod.instances = set-get_or synod.instances number no_instance in
+    rw same at all
 
-module _ (synod : Synod) (number : ℕ) (inside : number < numbers) where
-  offers_are : (other : Offers) → offers_at (lists_of synod) number ≡ listed (slice_index_or synod.offers number other)
-  offers_are other = get_or-map listed synod.offers number other [] (omega (arith, synod.sixteen_lists))
+-- a step that keeps the number's own instance
+pub work_keeps_all : (synod : Synod) (number set : ℕ) (after : Instance) → number < numbers
+    → StaysKept (instance_at synod.instances number) (offers_at (lists_of synod.offers) number) set (won synod.wins set) after
+    → AllKept (won synod.wins) (won synod.wins) (lists_of synod.offers) (slice_set synod.instances number after)
+work_keeps_all synod number set after inside stays =
+    let lists = lists_of synod.offers in
+    let meet = meeting (won synod.wins) (won synod.wins) synod.never_apart in
+    let kept = ∥∥₁_map (synod.all_kept number inside)
+    (stays (won synod.wins) (won synod.wins) meet synod.everyone_wins synod.everyone_wins (λ wins. wins) (λ wins. wins)) in
+    let all = all_kept_with (won synod.wins) (won synod.wins) lists synod.instances number (offers_at lists number) after
+    (sixteen_lists synod.offers) synod.sixteen inside synod.all_kept kept in
+    let same : slice_set lists number (offers_at lists number) ≡ lists = set-get_or lists number [] in
+    rw same at all
 
-  -- one more offer
-  pub offer_keeps_all : (value : ℕ) (more other : Offers) → listed more ≡ listed (slice_index_or synod.offers number other) ++ (value ∷ [])
-      → AllKept (won synod.wins) (won synod.wins) (map listed (slice_set synod.offers number more)) synod.instances
-  offer_keeps_all value more other is =
-      let lists = lists_of synod in
-      let x = instance_at synod.instances number in
-      let kept = ∥∥₁_map (synod.all_kept number inside) (λ k. offering_is_kept k value) in
-      let all = all_kept_with (won synod.wins) (won synod.wins) lists synod.instances number _ x
-      (length-map synod.offers listed ∙ synod.sixteen_lists) synod.sixteen_instances inside synod.all_kept kept in
-      let offers : map listed (slice_set synod.offers number more) ≡ slice_set lists number (offers_at lists number ++ (value ∷ [])) =
-      map-set listed synod.offers number more ∙ ap (slice_set lists number) (is ∙ ap (λ os. os ++ (value ∷ [])) (sym (offers_are other))) in
-      let same : slice_set synod.instances number x ≡ synod.instances = set-get_or synod.instances number no_instance in
-      rw offers (rw same at all)
+-- an instance that may have changed, put in its place: taken or not
+put_back : (instances : List Instance) (number : ℕ) (outcome : Option Instance)
+    → (answer_of outcome ≡ taken (ok_or outcome NotAllowed)) × (slice_set instances number (or_same outcome (instance_at instances number)) ≡ instances_with (ok_or outcome NotAllowed) instances number)
+put_back instances number None = (refl, set-get_or instances number no_instance)
+put_back instances number (Some after) = (refl, refl)
 
-  -- a step that keeps the number's own instance
-  pub work_keeps_all : (set : ℕ) (after : Instance) (other : Offers)
-      → StaysKept (instance_at synod.instances number) (listed (slice_index_or synod.offers number other)) set (won synod.wins set) after
-      → AllKept (won synod.wins) (won synod.wins) (lists_of synod) (slice_set synod.instances number after)
-  work_keeps_all set after other stays =
-      let lists = lists_of synod in
-      let kept = ∥∥₁_map (synod.all_kept number inside) (λ k.
-      stays (won synod.wins) (won synod.wins) (meeting (won synod.wins) (won synod.wins) synod.never_apart) synod.everyone_wins synod.everyone_wins
-      (λ wins. wins) (λ wins. wins) (rw (offers_are other) at k)) in
-      let all = all_kept_with (won synod.wins) (won synod.wins) lists synod.instances number _ after
-      (length-map synod.offers listed ∙ synod.sixteen_lists) synod.sixteen_instances inside synod.all_kept kept in
-      let same : slice_set lists number (listed (slice_index_or synod.offers number other)) ≡ lists =
-      ap (slice_set lists number) (sym (offers_are other)) ∙ set-get_or lists number [] in
-      rw same at all
-
-  module _ (step ballot set : ℕ) (other : Offers) where
-    -- the step is made on the number's own instance, with its offers
-    step_is : worked_at synod.wins (lists_of synod) synod.instances number step ballot set
-        ≡ worked (instance_at synod.instances number) (listed (slice_index_or synod.offers number other)) step ballot set (won synod.wins set)
-    step_is = ap (λ offers. worked (instance_at synod.instances number) offers step ballot set (won synod.wins set)) (offers_are other)
-
-    pub work_answer : (answer : Answer)
-        → answer ≡ answer_of (worked (instance_at synod.instances number) (listed (slice_index_or synod.offers number other)) step ballot set (won synod.wins set))
-        → answer ≡ (if nat_lt number numbers then answer_of (worked_at synod.wins (lists_of synod) synod.instances number step ballot set) else Err TooHigh)
-    work_answer answer is = is ∙ ap answer_of (sym step_is) ∙ sym (below number _ _ inside)
-
-    pub work_instances : (after : Instance)
-        → after ≡ or_same (worked (instance_at synod.instances number) (listed (slice_index_or synod.offers number other)) step ballot set (won synod.wins set)) (instance_at synod.instances number)
-        → slice_set synod.instances number after
-        ≡ (if nat_lt number numbers then instances_with (worked_at synod.wins (lists_of synod) synod.instances number step ballot set) synod.instances number else synod.instances)
-    work_instances after is =
-        ap (slice_set synod.instances number) (is ∙ ap (λ outcome. or_same outcome (instance_at synod.instances number)) (sym step_is))
-        ∙ set_or_same synod.instances number _ ∙ sym (below number _ _ inside)
+-- what the step made of the number's own instance is what the definition of work says
+pub work_is : (synod : Synod) (number step ballot set : ℕ) (answer : Answer) (after : Instance) → number < numbers
+    → answer ≡ answer_of (worked (instance_at synod.instances number) (offers_at (lists_of synod.offers) number) step ballot set (won synod.wins set))
+    → after ≡ or_same (worked (instance_at synod.instances number) (offers_at (lists_of synod.offers) number) step ballot set (won synod.wins set)) (instance_at synod.instances number)
+    → (answer ≡ taken (worked_at (tables_of synod) number step ballot set))
+    × (slice_set synod.instances number after ≡ instances_with (worked_at (tables_of synod) number step ballot set) synod.instances number)
+work_is synod number step ballot set answer after inside answered left =
+    let (same_answer, same_instances) = put_back synod.instances number (worked (instance_at synod.instances number) (offers_at (lists_of synod.offers) number) step ballot set (won synod.wins set)) in
+    let here = choose_below number _ _ inside in (
+      answered ∙ same_answer ∙ ap taken (sym here),
+      ap (slice_set synod.instances number) left ∙ same_instances ∙ ap (λ outcome. instances_with outcome synod.instances number) (sym here),
+    )

@@ -1,13 +1,11 @@
 -- A synod at its making.
-use Rattle.std.proofs.Common.{◌≡◌, ℕ, Bool, true, false, [], map, replicate, sym, ap, ◌∙◌, ⊎_elim, arith}
+use Rattle.std.proofs.Common.{◌≡◌, ℕ, Bool, true, false, [], map, replicate, sym, ◌∙◌, ⊎_elim, arith}
 use Rattle.std.specs.List.{range_with_len}
 use Rattle.std.proofs.lemmas.Bool.{cases_lt}
-use Rattle.std.proofs.lemmas.List.{get_or_past, get_or-replicate, get_or-map}
+use Rattle.std.proofs.lemmas.List.{get_or_past, get_or-replicate}
 use Rattle.std.proofs.lemmas.List.FromFn.{length-map-range_with_len, get_or-map-range_with_len}
-use Rattle.chooser.specs.declared.offers.Offers.{Offers}
 use Rattle.chooser.specs.Limits.{numbers}
-use Rattle.chooser.specs.Listed.{listed}
-use Rattle.chooser.specs.Meaning.{offers_at}
+use Rattle.chooser.specs.Meaning.{OfferLists, offers_at}
 use Rattle.quorum.specs.Sets.{Share}
 use Rattle.ballots.specs.Board.{acceptors}
 use Rattle.ballots.specs.Instance.{blank}
@@ -30,9 +28,8 @@ pub start_never_apart : (winning : ℕ → Bool) → ((a b : ℕ) → winning a 
 start_never_apart winning meet a b a_wins b_wins apart = apart (meet a b (rule_agrees winning a a_wins) (rule_agrees winning b b_wins))
 
 -- every number is blank, without offers
-pub start_all_kept : (fixing counting : ℕ → Bool) (none : Offers) → listed none ≡ [] → AllKept fixing counting (map listed (replicate numbers none)) (replicate numbers blank)
-start_all_kept fixing counting none empty number inside =
-    let no_offers : offers_at (map listed (replicate numbers none)) number ≡ [] =
-    get_or-map listed (replicate numbers none) number none [] (omega arith) ∙ ap listed (get_or-replicate numbers number none none inside) ∙ empty in
+pub start_all_kept : (fixing counting : ℕ → Bool) (lists : OfferLists) → lists ≡ replicate numbers [] → AllKept fixing counting lists (replicate numbers blank)
+start_all_kept fixing counting lists none number inside =
+    let no_offers : offers_at (replicate numbers []) number ≡ [] = get_or-replicate numbers number [] [] inside in
     let fresh : instance_at (replicate numbers blank) number ≡ blank = get_or-replicate numbers number blank no_instance inside in
-    rw (no_offers, fresh) (∣ blank_is_kept fixing counting ∣₁)
+    rw (none, no_offers, fresh) (∣ blank_is_kept fixing counting ∣₁)

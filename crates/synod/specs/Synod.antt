@@ -1,17 +1,25 @@
--- What the synod does, exactly, over what it keeps: the rule's answers for the 32 sets, the offers, and an instance for each number.
-use Rattle.std.specs.Prelude.{◌≡◌, ℕ, Bool, nat_lt, if◌then◌else◌, List, map, slice_set, Option, None, Some, Err}
-use Rattle.chooser.specs.declared.refusal.ChooserRefusal.TheVariants.{TooHigh}
+-- What a synod does, exactly, over what it keeps.
+use Rattle.std.specs.Prelude.{◌≡◌, ℕ, Bool, nat_lt, if◌then◌else◌, List, map, slice_set, Option, Result, Ok, Err, ok_or}
+use Rattle.chooser.specs.declared.calls.Call.{Call}
+use Rattle.chooser.specs.declared.calls.Call.TheVariants.{Offer, Work}
+use Rattle.chooser.specs.declared.refusal.ChooserRefusal.{ChooserRefusal}
+use Rattle.chooser.specs.declared.refusal.ChooserRefusal.TheVariants.{TooHigh, NotAllowed}
 use Rattle.chooser.specs.Limits.{numbers}
-use Rattle.chooser.specs.Listed.{listed}
+use Rattle.chooser.specs.Listed.{lists_of}
 use Rattle.chooser.specs.Meaning.{OfferLists, Decisions, Answer, offers_at, offer_answer, lists_with}
 use Rattle.ballots.specs.declared.instance.Instance.{Instance}
+use Rattle.ballots.specs.Instance.{value_at, worked}
 use Rattle.synod.specs.declared.synod.Synod.{Synod}
-use Rattle.ballots.specs.Instance.{value_at, worked, answer_of}
 use Rattle.synod.specs.Invariant.{won, instance_at}
 
--- the offers of a synod
-abbrev pub lists_of : Synod → OfferLists
-lists_of synod = map listed synod.offers
+-- All that a synod keeps: the rule's answers for the 32 sets, the offers, and an instance for each number.
+pub record Tables : Type 0 where
+  pub wins : List Bool
+  pub lists : OfferLists
+  pub instances : List Instance
+
+abbrev pub tables_of : Synod → Tables
+tables_of synod = record { wins = synod.wins; lists = lists_of synod.offers; instances = synod.instances }
 
 -- the decisions of instances
 abbrev pub decisions_of : List Instance → Decisions
@@ -21,26 +29,33 @@ decisions_of instances = map (λ (x : Instance). x.decision) instances
 abbrev pub ballot_value : Synod → ℕ → ℕ → Option ℕ
 ballot_value synod number ballot = value_at (instance_at synod.instances number) ballot
 
--- An offer: answered as offers are, and appended if it was taken. Nothing else changes.
-pub record SynodOffered (before : Synod) (number value : ℕ) (answer : Answer) (after : Synod) : Type 0 where
-  pub answered : answer ≡ offer_answer (lists_of before) number
-  pub appended : lists_of after ≡ lists_with (offer_answer (lists_of before) number) (lists_of before) number value
-  pub instances_stay : after.instances ≡ before.instances
-  pub wins_stay : after.wins ≡ before.wins
+-- What work makes of the instance of a number, for a set that wins by the rule's answer. Refused with 1 above the last number, with 3 if the step is not allowed.
+abbrev pub worked_at : Tables → ℕ → ℕ → ℕ → ℕ → Result Instance ChooserRefusal
+worked_at t number step ballot set =
+    if nat_lt number numbers then ok_or (worked (instance_at t.instances number) (offers_at t.lists number) step ballot set (won t.wins set)) NotAllowed
+    else Err TooHigh
 
--- The instance of a number after work on it, for a set that wins by the rule's answer; none if the step is not allowed.
-abbrev pub worked_at : List Bool → OfferLists → List Instance → ℕ → ℕ → ℕ → ℕ → Option Instance
-worked_at wins lists instances number step ballot set =
-    worked (instance_at instances number) (offers_at lists number) step ballot set (won wins set)
+-- taken, or why not
+abbrev pub taken : Result Instance ChooserRefusal → Answer
+taken (Ok after) = Ok tt
+taken (Err why) = Err why
 
--- the instances with that of the number changed, if it is
-abbrev pub instances_with : Option Instance → List Instance → ℕ → List Instance
-instances_with None instances number = instances
-instances_with (Some after) instances number = slice_set instances number after
+-- the instances, where that of a number may have changed
+abbrev pub instances_with : Result Instance ChooserRefusal → List Instance → ℕ → List Instance
+instances_with (Ok after) instances number = slice_set instances number after
+instances_with (Err why) instances number = instances
 
--- Work: refused with 1 above the last number, with 3 if the step is not allowed; else the number's instance changes. Nothing else does.
-pub record SynodWorked (before : Synod) (number step ballot set : ℕ) (answer : Answer) (after : Synod) : Type 0 where
-  pub answered : answer ≡ (if nat_lt number numbers then answer_of (worked_at before.wins (lists_of before) before.instances number step ballot set) else Err TooHigh)
-  pub changed : after.instances ≡ (if nat_lt number numbers then instances_with (worked_at before.wins (lists_of before) before.instances number step ballot set) before.instances number else before.instances)
-  pub offers_stay : lists_of after ≡ lists_of before
-  pub wins_stay : after.wins ≡ before.wins
+-- what a call answers
+abbrev pub answer_to : Tables → Call → Answer
+answer_to t (Offer number value) = offer_answer t.lists number
+answer_to t (Work number step ballot set) = taken (worked_at t number step ballot set)
+
+-- what it leaves: an offer more, or another instance
+abbrev pub after_call : Tables → Call → Tables
+after_call t (Offer number value) = record t { lists = lists_with (offer_answer t.lists number) t.lists number value }
+after_call t (Work number step ballot set) = record t { instances = instances_with (worked_at t number step ballot set) t.instances number }
+
+-- a call made on a synod
+pub record Made (before : Synod) (call : Call) (answer : Answer) (after : Synod) : Type 0 where
+  pub answered : answer ≡ answer_to (tables_of before) call
+  pub left : tables_of after ≡ after_call (tables_of before) call

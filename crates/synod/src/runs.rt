@@ -1,8 +1,8 @@
 //! Runs of a synod, and what holds of every one of them.
 ghost use Rattle.std.specs.Prelude.{◌≡◌};
 ghost use Rattle.chooser.specs.Runs.{calls_of, answers_of, DecisionsStay};
-ghost use Rattle.synod.specs.Synod.{decisions_of};
-ghost use Rattle.synod.specs.Played.{tables_of, answers_to, after_calls};
+ghost use Rattle.synod.specs.Synod.{tables_of, decisions_of};
+ghost use Rattle.synod.specs.Played.{answers_to, after_calls};
 ghost use Rattle.synod.specs.Ballots.{OneValue, ValuesStay};
 
 use crate::Synod;

@@ -2,43 +2,42 @@
 ghost use Rattle.std.specs.Prelude.{◌≡◌, ◌^◌, true, length, map};
 ghost use Rattle.std.specs.List.{range_with_len};
 ghost use Rattle.chooser.specs.Limits.{numbers};
-ghost use Rattle.chooser.specs.Listed.{listed};
+ghost use Rattle.chooser.specs.Listed.{lists_of};
 ghost use Rattle.quorum.specs.Sets.{everyone as all_places};
 ghost use Rattle.ballots.specs.Board.{acceptors};
 ghost use Rattle.synod.specs.Invariant.{won, NeverApart, AllKept};
 
 use ballots::{ACCEPTORS, Instance};
-use chooser::{Chooser, ChooserRefusal, NUMBERS, Offers};
+use chooser::{Chooser, ChooserRefusal, NUMBERS, OfferTable};
 use quorum::QuorumRule;
 
 /// The value of a ballot is decided under its number once a winning set of the number's five acceptors has accepted that ballot last.
 #[derive(Debug, PartialEq, Eq, Drop)]
 pub struct Synod {
     wins: [bool; 1 << ACCEPTORS],
-    offers: [Offers; NUMBERS as usize],
+    offers: OfferTable,
     instances: [Instance; NUMBERS as usize],
     ghost all_sets: { length wins ≡ 2 ^ acceptors },
     ghost never_apart: { NeverApart (won wins) (won wins) },
     ghost everyone_wins: { won wins (all_places acceptors) ≡ true },
-    ghost sixteen_lists: { length offers ≡ numbers },
-    ghost sixteen_instances: { length instances ≡ numbers },
-    ghost all_kept: { AllKept (won wins) (won wins) (map listed offers) instances },
+    ghost sixteen: { length instances ≡ numbers },
+    ghost all_kept: { AllKept (won wins) (won wins) (lists_of offers) instances },
 }
 
 impl Synod {
     ghost use Rattle.std.specs.Prelude.{[], replicate};
     ghost use Rattle.ballots.specs.Instance.{blank};
-    ghost use Rattle.synod.specs.Synod.{lists_of, ballot_value};
+    ghost use Rattle.synod.specs.Synod.{ballot_value};
 
     /// A synod by this rule, which is asked about each set of five now and never again.
     pub fn new<Q: QuorumRule>(rule: &Q) -> Synod
         ensures asked { result.wins ≡ map (Q.winning rule.now acceptors) (range_with_len 0 (2 ^ acceptors)) }
-        ensures nothing_offered { lists_of result ≡ replicate numbers [] }
+        ensures nothing_offered { lists_of result.offers ≡ replicate numbers [] }
         ensures blank { result.instances ≡ replicate numbers blank }
     {
         Synod {
             wins: answers(rule),
-            offers: [Offers::new(); NUMBERS as usize],
+            offers: OfferTable::new(),
             instances: [Instance::new(); NUMBERS as usize],
         }
     }
@@ -59,24 +58,26 @@ impl Synod {
 }
 
 impl Chooser for Synod {
-    ghost use Rattle.synod.specs.Synod.{lists_of, decisions_of, SynodOffered, SynodWorked};
-    ghost use Rattle.synod.specs.SynodLaws.{sixteen_decisions as decisions_stand, sixteen_lists as lists_stand, eight_at_most as eight_stand, offers_are_bytes as bytes_stand, decided_is_offered as decided_among, offering_is_lawful as offering_keeps, working_is_lawful as working_keeps};
+    ghost use Rattle.chooser.specs.declared.calls.Call.TheVariants.{Offer, Work};
+    ghost use Rattle.chooser.specs.TableLaws.{sixteen_lists as lists_stand, eight_at_most as eight_stand, offers_are_bytes as bytes_stand};
+    ghost use Rattle.synod.specs.Synod.{decisions_of, Made};
+    ghost use Rattle.synod.specs.SynodLaws.{sixteen_decisions as decisions_stand, decided_is_offered as decided_among, offering_keeps, working_keeps};
 
     ghost decided = { λ synod. decisions_of synod.instances };
 
-    ghost offers = { lists_of };
+    ghost offers = { λ synod. lists_of synod.offers };
 
-    ghost offering = { SynodOffered };
+    ghost offering = { λ before number value answer after. Made before (Offer number value) answer after };
 
-    ghost working = { SynodWorked };
+    ghost working = { λ before number step ballot set answer after. Made before (Work number step ballot set) answer after };
 
     ghost sixteen_decisions = { decisions_stand };
 
-    ghost sixteen_lists = { lists_stand };
+    ghost sixteen_lists = { λ synod. lists_stand synod.offers };
 
-    ghost eight_at_most = { eight_stand };
+    ghost eight_at_most = { λ synod. eight_stand synod.offers };
 
-    ghost offers_are_bytes = { bytes_stand };
+    ghost offers_are_bytes = { λ synod. bytes_stand synod.offers };
 
     ghost decided_is_offered = { decided_among };
 
@@ -85,21 +86,11 @@ impl Chooser for Synod {
     ghost working_is_lawful = { working_keeps };
 
     fn decision(&self, number: u8) -> Option<u8> {
-        if number >= NUMBERS {
-            return None;
-        }
-        self.instances[usize::from(number)].decision()
+        self.instances.get(usize::from(number))?.decision()
     }
 
     fn offer(&mut self, number: u8, value: u8) -> Result<(), ChooserRefusal> {
-        if number >= NUMBERS {
-            return Err(ChooserRefusal::TooHigh);
-        }
-        let at = usize::from(number);
-        let mut offers = self.offers[at];
-        offers.add(value)?;
-        self.offers[at] = offers;
-        Ok(())
+        self.offers.add(number, value)
     }
 
     fn work(&mut self, number: u8, step: u8, ballot: u8, set: u8) -> Result<(), ChooserRefusal> {
@@ -107,7 +98,7 @@ impl Chooser for Synod {
             return Err(ChooserRefusal::TooHigh);
         }
         let wins = self.wins(set);
-        let offers = self.offers[usize::from(number)];
+        let offers = self.offers.under(number);
         self.instances[usize::from(number)].work(step, ballot, set, wins, offers.as_slice())
     }
 }

@@ -2,8 +2,8 @@ use Rattle.std.proofs.Common.{◌≡◌, refl, ap, ◌∙◌}
 use native.Mathlib.Decide.{dec_le, dec_lt}
 use lib.Count.{ones, ones_in}
 use Rattle.chooser.specs.Meaning.{decision_at}
-use Rattle.synod.specs.Synod.{decisions_of}
-use Rattle.synod.specs.Played.{Tables, tables_of, after_calls}
+use Rattle.synod.specs.Synod.{Tables, tables_of, decisions_of}
+use Rattle.synod.specs.Played.{after_calls}
 use Rattle.cases.specs.ChooserExamples.{ChooserExamples, by_majority, contested}
 use Rattle.cases.proofs.choosers.contested_ballot.Goals as goal
 

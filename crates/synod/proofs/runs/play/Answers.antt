@@ -1,5 +1,6 @@
 use Rattle.std.proofs.Common.{ap, ◌∙◌}
-use Rattle.synod.specs.Played.{tables_of, answers_to, after_calls}
+use Rattle.synod.specs.Synod.{tables_of}
+use Rattle.synod.specs.Played.{answers_to, after_calls}
 use Rattle.synod.proofs.RunLaws.{run_is, run_keeps_values, run_has_one_value}
 use Rattle.synod.proofs.runs.play.Goals as goal
 

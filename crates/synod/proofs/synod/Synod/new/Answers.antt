@@ -2,7 +2,7 @@ use Rattle.std.proofs.Common.{◌≡◌, map, refl, subst, sym, ap, ◌∙◌, a
 use Rattle.std.specs.List.{range_with_len}
 use Rattle.std.proofs.lemmas.List.FromFn.{length-map-range_with_len}
 use Rattle.chooser.specs.Limits.{numbers}
-use Rattle.chooser.specs.Listed.{listed}
+use Rattle.chooser.specs.Listed.{lists_of}
 use Rattle.quorum.specs.Sets.{everyone}
 use Rattle.ballots.specs.Board.{acceptors}
 use Rattle.synod.specs.Invariant.{won, AllKept}
@@ -19,7 +19,7 @@ invariant_of-result g c =
       all_sets = ap length asked ∙ length-map-range_with_len winning 0 32;
       never_apart = rw asked (start_never_apart winning (λ a b a_wins b_wins. g.met.Q.QuorumRule.winners_meet rule acceptors a b a_wins b_wins));
       everyone_wins = ap (λ wins. won wins (everyone acceptors)) asked ∙ g.met.Q.QuorumRule.everyone_wins rule acceptors (omega arith) (omega arith);
-      sixteen_lists = refl;
-      sixteen_instances = refl;
-      all_kept = subst (λ x. AllKept (won c.answers.result) (won c.answers.result) (map listed (replicate numbers c.new.result)) (replicate numbers x)) (sym c.new-2.ensures) (start_all_kept (won c.answers.result) (won c.answers.result) c.new.result c.new.ensures);
+      sixteen = refl;
+      all_kept = subst (λ x. AllKept (won c.answers.result) (won c.answers.result) (lists_of c.new.result) (replicate numbers x)) (sym c.new-2.ensures)
+          (start_all_kept (won c.answers.result) (won c.answers.result) (lists_of c.new.result) c.new.ensures);
     }
