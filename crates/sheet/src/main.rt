@@ -1,13 +1,16 @@
-//! Answers requests about contents, quorum rules and frames, a line each on standard input.
+//! Answers requests about contents, quorum rules, frames and choosers, a line each on standard input.
 #![tactic(auto)]
 
 ghost use Rattle.std.specs.Prelude.{◌≤◌};
 ghost use Rattle.quorum.specs.Limits.{largest_group};
 
+mod choosers;
 mod frames;
 mod request;
 mod text;
 
+use chooser::Turn;
+use choosers::{show_ledger, show_synod, write_down};
 use content::{Content, read_back};
 use curve::Curve;
 use frames::{show_frame, show_puts};
@@ -20,11 +23,12 @@ use std::io;
 use text::{Hexadecimal, Places};
 
 fn main(rt: HostRuntime) -> io::Result<()> {
+    let mut turns = Vec::new(rt.alloc());
     for line in rt.lines(rt.alloc()) {
         let line = line?;
         println!(rt; "{line}")?;
         match parse(&line) {
-            Ok(Some(request)) => answer(&rt, request)?,
+            Ok(Some(request)) => answer(&rt, request, &mut turns)?,
             Ok(None) => {}
             Err(error) => println!(rt; "    {error}")?,
         }
@@ -32,13 +36,16 @@ fn main(rt: HostRuntime) -> io::Result<()> {
     Ok(())
 }
 
-fn answer(rt: &HostRuntime, request: Request) -> io::Result<()> {
+// Answers the request; the turns are the calls written down since a chooser last played them.
+fn answer(rt: &HostRuntime, request: Request, turns: &mut Vec<Turn>) -> io::Result<()> {
     match request {
         Request::Quote { bid, ask } => show_content(rt, Quote::new(bid, ask)),
         Request::QuoteBytes { bytes } => show_read(rt, Quote::from_bytes(&bytes)),
         Request::Curve { rates } => show_curve(rt, rates),
         Request::Majority { size } => show_group(rt, &Majority, size),
-        Request::Weighted { weights, size } => show_weighted_group(rt, weights, size),
+        Request::Weighted { weights, size } => {
+            with_weights(rt, weights, |rule| show_group(rt, rule, size))
+        }
         Request::Put {
             bid,
             ask,
@@ -46,6 +53,12 @@ fn answer(rt: &HostRuntime, request: Request) -> io::Result<()> {
             receivers,
         } => show_puts(rt, Quote::new(bid, ask), sender, receivers),
         Request::Frame { bytes } => show_frame(rt, &bytes),
+        Request::Call(call) => write_down(turns, call),
+        Request::Ledger => show_ledger(rt, turns),
+        Request::Synod { weights: None } => show_synod(rt, &Majority, turns),
+        Request::Synod {
+            weights: Some(weights),
+        } => with_weights(rt, weights, |rule| show_synod(rt, rule, turns)),
     }
 }
 
@@ -77,9 +90,16 @@ fn show_read<C: Content + Display>(rt: &HostRuntime, content: Option<C>) -> io::
     }
 }
 
-fn show_weighted_group(rt: &HostRuntime, weights: [u8; LARGEST_GROUP], size: u8) -> io::Result<()> {
+// Goes on with the rule by these weights; or says why there is none.
+fn with_weights<F: FnOnce(&Weighted) -> io::Result<()>>(
+    rt: &HostRuntime,
+    weights: [u8; LARGEST_GROUP],
+    go_on: F,
+) -> io::Result<()>
+    requires callable { F.IsAlwaysCallable go_on }
+{
     match Weighted::new(weights) {
-        Ok(rule) => show_group(rt, &rule, size),
+        Ok(rule) => go_on(&rule),
         Err(refusal) => println!(rt; "    refused {refusal}"),
     }
 }

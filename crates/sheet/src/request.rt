@@ -1,4 +1,6 @@
 //! Requests, as they stand on a line.
+use crate::choosers::step_of;
+use chooser::Call;
 use frame::SLOT;
 use quorum::LARGEST_GROUP;
 use std::error::Error;
@@ -41,6 +43,14 @@ pub(crate) enum Request {
     /// `frame HH ..`: read a frame, whose bytes that are not given are 0
     Frame {
         bytes: [u8; SLOT],
+    },
+    /// `offer NUMBER VALUE`, `promise NUMBER BALLOT by ACCEPTOR ..` and so `fix`, `accept` and `count`, or `work NUMBER STEP BALLOT SET`: write the call down
+    Call(Call),
+    /// `ledger`: make the calls on a ledger
+    Ledger,
+    /// `synod`, by majority, or `synod WEIGHT ..`: make the calls on a synod
+    Synod {
+        weights: Option<[u8; LARGEST_GROUP]>,
     },
 }
 
@@ -98,16 +108,66 @@ impl<'a> Words<'a> {
             "weighted" => self.weighted()?,
             "put" => self.put()?,
             "frame" => self.frame()?,
-            _ => return None,
+            "offer" => self.offer()?,
+            "work" => self.work()?,
+            "ledger" => Request::Ledger,
+            "synod" => self.synod()?,
+            _ => self.named_work(step_of(name)?)?,
         };
         self.word().is_none().then_some(request)
     }
 
     fn weighted(&mut self) -> Option<Request> {
-        let mut weights = [0; LARGEST_GROUP];
-        let given = self.fill(&mut weights, number)?;
+        let (weights, given) = self.weights()?;
         let size = u8::try_from(given).ok()?;
         Some(Request::Weighted { weights, size })
+    }
+
+    fn synod(&mut self) -> Option<Request> {
+        let (weights, given) = self.weights()?;
+        let weights = (given > 0).then_some(weights);
+        Some(Request::Synod { weights })
+    }
+
+    // The weights that come, then 0, and how many came.
+    fn weights(&mut self) -> Option<([u8; LARGEST_GROUP], usize)> {
+        let mut weights = [0; LARGEST_GROUP];
+        let given = self.fill(&mut weights, number)?;
+        Some((weights, given))
+    }
+
+    fn offer(&mut self) -> Option<Request> {
+        let [number, value]: [u8; 2] = self.all(number)?;
+        Some(Request::Call(Call::Offer { number, value }))
+    }
+
+    fn work(&mut self) -> Option<Request> {
+        let [number, step, ballot, set]: [u8; 4] = self.all(number)?;
+        Some(Request::Call(Call::Work {
+            number,
+            step,
+            ballot,
+            set,
+        }))
+    }
+
+    // Work whose step is named by the line's first word.
+    fn named_work(&mut self, step: u8) -> Option<Request> {
+        let [number, ballot]: [u8; 2] = self.all(number)?;
+        self.expect("by")?;
+        let set = self.places()?;
+        Some(Request::Call(Call::Work {
+            number,
+            step,
+            ballot,
+            set,
+        }))
+    }
+
+    // The set of all the places that come; none if none comes, or if a word is no place.
+    fn places(&mut self) -> Option<u8> {
+        let set = self.0.try_fold(0, |set, word| Some(set | place(word)?))?;
+        (set != 0).then_some(set)
     }
 
     fn put(&mut self) -> Option<Request> {
@@ -166,6 +226,12 @@ impl<'a> Words<'a> {
 
 fn number<T: FromStr<Err = ParseIntError>>(word: &str) -> Option<T> {
     word.parse().ok()
+}
+
+// The set of one place, 0 to 7.
+fn place(word: &str) -> Option<u8> {
+    let place = number(word)?;
+    1u8.checked_shl(place)
 }
 
 // The byte of two hexadecimal digits.
