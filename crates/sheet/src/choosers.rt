@@ -1,10 +1,11 @@
 //! Calls on choosers: written down, made all at once, and shown with what they decide.
 use crate::text::Places;
+use ballots::LAST_BALLOT;
 use chooser::{Call, Chooser, ChooserRefusal, NUMBERS, Turn};
 use ledger::Ledger;
 use quorum::QuorumRule;
 use std::{fmt, io};
-use synod::{LAST_BALLOT, Synod};
+use synod::Synod;
 
 // The steps of work that have a name.
 const STEPS: [(u8, &str); 4] = [(1, "promise"), (2, "fix"), (3, "accept"), (4, "count")];
