@@ -41,8 +41,8 @@ deciding_by lists number value (Ok _) is sixteen =
     let offers = offers_at lists number in
     let inside : number < numbers = grind (arith, nat_tests) in
     one_decided (firsts lists) _ number (first_of (offers ++ (value ∷ []))) (omega (arith, length-map lists first_of))
-      (map-set first_of lists number (offers ++ (value ∷ [])))
-      (λ first stands. first_stays offers value first (decided_at lists number ∙ stands))
+    (map-set first_of lists number (offers ++ (value ∷ [])))
+    (λ first stands. first_stays offers value first (decided_at lists number ∙ stands))
 deciding_by lists number value (Err why) is sixteen = nothing_decided (firsts lists) number (Err why)
 
 pub offering_keeps : (before after : Ledger) (number value : ℕ) (answer : Answer) → LedgerOffered (ledger_lists before) number value answer (ledger_lists after)

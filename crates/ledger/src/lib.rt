@@ -58,13 +58,7 @@ impl Chooser for Ledger {
         self.offers.add(number, value)
     }
 
-    fn work(
-        &mut self,
-        number: u8,
-        _step: u8,
-        _ballot: u8,
-        _set: u8,
-    ) -> Result<(), ChooserRefusal> {
+    fn work(&mut self, number: u8, _step: u8, _ballot: u8, _set: u8) -> Result<(), ChooserRefusal> {
         if number >= NUMBERS {
             return Err(ChooserRefusal::TooHigh);
         }

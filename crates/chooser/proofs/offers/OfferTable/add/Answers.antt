@@ -1,4 +1,4 @@
-use Rattle.std.proofs.Common.{◌≡◌, ◌<◌, length, Ok, sym, ap, ◌∙◌, arith, List, [], ◌∷◌, ◌++◌, slice_index_or}
+use Rattle.std.proofs.Common.{◌≡◌, Ok, sym, ap, ◌∙◌, arith, [], ◌∷◌, ◌++◌, slice_index_or}
 use Rattle.chooser.specs.Meaning.{offer_taken, offers_with, offer_answer, lists_with}
 use Rattle.chooser.specs.Listed.{listed, lists_of}
 use Rattle.chooser.proofs.Appending.{appended_at}
