@@ -12,16 +12,16 @@ use quorum::member;
 /// What an acceptor keeps: the ballot that it promised and the one that it accepted last, 0 for none.
 #[derive(Clone, Copy, Debug, PartialEq, Eq)]
 pub struct Acceptor {
-    promised: u8,
-    accepted: u8,
+    pub promised: u8,
+    pub accepted: u8,
 }
 
 /// What is kept under one number: the acceptors, the value of each ballot that is fixed, the decision.
 #[derive(Clone, Copy, Debug, PartialEq, Eq)]
 pub struct Instance {
-    acceptors: [Acceptor; ACCEPTORS],
-    values: [Option<u8>; LAST_BALLOT as usize + 1],
-    decision: Option<u8>,
+    pub acceptors: [Acceptor; ACCEPTORS],
+    pub values: [Option<u8>; LAST_BALLOT as usize + 1],
+    pub decision: Option<u8>,
 }
 
 impl Instance {
@@ -38,13 +38,6 @@ impl Instance {
             values: [None; LAST_BALLOT as usize + 1],
             decision: None,
         }
-    }
-
-    /// What is decided.
-    pub fn decision(&self) -> Option<u8>
-        ensures { result ≡ self.now.decision }
-    {
-        self.decision
     }
 
     /// The value of a ballot, if it is fixed.

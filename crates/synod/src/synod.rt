@@ -86,7 +86,7 @@ impl Chooser for Synod {
     ghost working_is_lawful = { working_keeps };
 
     fn decision(&self, number: u8) -> Option<u8> {
-        self.instances.get(usize::from(number))?.decision()
+        self.instances.get(usize::from(number))?.decision
     }
 
     fn offer(&mut self, number: u8, value: u8) -> Result<(), ChooserRefusal> {
