@@ -10,9 +10,10 @@ use Rattle.chooser.specs.Meaning.{one_of}
 use Rattle.quorum.specs.Sets.{everyone}
 use Rattle.ballots.specs.declared.instance.Acceptor.{Acceptor}
 use Rattle.ballots.specs.declared.instance.Instance.{Instance}
-use Rattle.ballots.specs.Board.{acceptors, owner, Each, Meet}
+use Rattle.ballots.specs.Limits.{acceptors, owner, last_ballot}
+use Rattle.ballots.specs.Board.{Each, Meet}
 use Rattle.ballots.proofs.Safety.{moves_keep_sound, fixing_keeps_sound, counting_keeps_sound, counting_keeps_decision, counted_is_fixed, offering_keeps_sound, decided_is_offered}
-use Rattle.ballots.specs.Instance.{last_ballot, fresh, blank, acceptor_at, value_at, highest_accepted, sole, promise_by, value_for, fix_step, accept_by, count_step, work_step, within, worked, or_same}
+use Rattle.ballots.specs.Instance.{fresh, blank, acceptor_at, value_at, highest_accepted, sole, promise_by, value_for, fix_step, accept_by, count_step, work_step, within, after_work, or_same}
 use Rattle.ballots.specs.Kept.{board, Kept, StaysKept}
 use Rattle.ballots.proofs.Members.{promised_by_each, accepted_by_each, accepted_below_highest, highest_accepted_passes}
 
@@ -39,7 +40,7 @@ blank_is_kept fixing counting =
         fixed_has_offer = λ b v fixed. absurd (blank_has_no_value b v fixed);
         value_is_offered = λ b v fixed. absurd (blank_has_no_value b v fixed);
         fixed_is_backed = λ b v fixed. absurd (blank_has_no_value b v fixed);
-        passed_over_is_dead = λ b later v w before fixed. absurd (blank_has_no_value b v fixed);
+        passed_over_is_dead = λ b higher v w before fixed. absurd (blank_has_no_value b v fixed);
         decided_is_chosen = λ v decided. cc;
       };
     }
@@ -60,6 +61,12 @@ sole_is_below set acceptor is = grind arith
 abbrev with_acceptor : Instance → ℕ → Acceptor → Instance
 with_acceptor x place becomes = record x { acceptors = slice_set x.acceptors place becomes }
 
+-- What is chosen by a number from 1 to 4 and is there is one of the four.
+one_of_four : (step : ℕ) (one two three four : Option Instance) (y : Instance)
+    → (if step == 1 then one else if step == 2 then two else if step == 3 then three else if step == 4 then four else None) ≡ Some y
+    → (one ≡ Some y) ⊎ (((step ≡ 2) × (two ≡ Some y)) ⊎ ((three ≡ Some y) ⊎ ((step ≡ 4) × (four ≡ Some y))))
+one_of_four step one two three four y is = grind arith
+
 module _ (x : Instance) (offers : List ℕ) (ballot set : ℕ) (wins : Bool) (y : Instance) where
   -- A promise changes an acceptor only.
   promise_keeps_rest : (chosen : Option ℕ) → promise_by x offers ballot chosen ≡ Some y → (y.values ≡ x.values) × (y.decision ≡ x.decision)
@@ -72,6 +79,11 @@ module _ (x : Instance) (offers : List ℕ) (ballot set : ℕ) (wins : Bool) (y 
   -- A fix changes one ballot, which had no value.
   fix_keeps_rest : fix_step x offers ballot set wins ≡ Some y → ((b v : ℕ) → value_at x b ≡ Some v → value_at y b ≡ Some v) × (y.decision ≡ x.decision)
   fix_keeps_rest is = (λ b v had. grind (arith, get_or-set_other x.values ballot b (value_for x offers ballot set) None), grind arith)
+
+  -- Work that is taken is one of the four steps.
+  four_steps : (step : ℕ) → work_step x offers step ballot set wins ≡ Some y
+      → (promise_by x offers ballot (sole set) ≡ Some y) ⊎ (((step ≡ 2) × (fix_step x offers ballot set wins ≡ Some y)) ⊎ ((accept_by x ballot (sole set) ≡ Some y) ⊎ ((step ≡ 4) × (count_step x ballot set wins ≡ Some y))))
+  four_steps step is = one_of_four step (promise_by x offers ballot (sole set)) (fix_step x offers ballot set wins) (accept_by x ballot (sole set)) (count_step x ballot set wins) y is
 
   -- A ballot's value stays: only a fix gives one, to a ballot that had none.
   pub work_keeps_values : (step : ℕ) → work_step x offers step ballot set wins ≡ Some y → (b v : ℕ) → value_at x b ≡ Some v → value_at y b ≡ Some v
@@ -113,7 +125,7 @@ module _ {fixing counting : ℕ → Bool} {offers : List ℕ} {x : Instance} (ke
       });
     }
 
-  -- A promise moves one acceptor to a later ballot whose offer exists.
+  -- A promise moves one acceptor to a higher ballot whose offer exists.
   promise_is_kept : (ballot : ℕ) (y : Instance) (chosen : Option ℕ) → ((place : ℕ) → chosen ≡ Some place → place < acceptors)
       → promise_by x offers ballot chosen ≡ Some y → Kept fixing counting offers y
   promise_is_kept ballot y None below is = cc
@@ -151,7 +163,7 @@ module _ {fixing counting : ℕ → Bool} {offers : List ℕ} {x : Instance} (ke
       (cases_eq (highest_accepted x set) 0)
 
   module _ (meet : Meet fixing counting) (all_fix : fixing (everyone acceptors) ≡ true) (all_count : counting (everyone acceptors) ≡ true)
-      (ballot set : ℕ) (wins : Bool) (fixes : wins ≡ true → fixing set ≡ true) (counts : wins ≡ true → counting set ≡ true)
+      (ballot set : ℕ) (wins : Bool) (step : ℕ) (fixes : step ≡ 2 → wins ≡ true → fixing set ≡ true) (counts : step ≡ 4 → wins ≡ true → counting set ≡ true)
       (low : 1 ≤ ballot) (high : ballot ≤ last_ballot) (y : Instance) where
     -- The fixing set shares an acceptor with everyone: it has promised the ballot, so the ballot's offer exists.
     promised_has_offer : fixing set ≡ true → Each set (λ a. (acceptor_at x a).promised ≡ ballot) → owner ballot < length offers
@@ -160,60 +172,74 @@ module _ {fixing counting : ℕ → Bool} {offers : List ℕ} {x : Instance} (ke
         rw (promised a below inside) at (kept.sound.promised_has_offer a (λ zero. omega arith))
 
     -- A fix gives one ballot a value, as the safety of fixing asks.
-    fix_is_kept : fix_step x offers ballot set wins ≡ Some y → Kept fixing counting offers y
-    fix_is_kept is =
+    fix_is_kept : step ≡ 2 → fix_step x offers ballot set wins ≡ Some y → Kept fixing counting offers y
+    fix_is_kept is_fix is =
         let (allowed, after) = allowed_step _ _ y is in
         let (unfixed, all, won) = fix_conditions _ _ wins allowed in
         let promised = promised_by_each x kept.five set ballot all in
-        let has_offer = promised_has_offer (fixes won) promised in
+        let has_offer = promised_has_offer (fixes is_fix won) promised in
         let (v, value, takes_over, offered) = fix_finds_value ballot set has_offer in
         rw (← after) (record {
           five = kept.five;
           sixteen = length-set x.values ballot (value_for x offers ballot set) ∙ kept.sixteen;
           sound = fixing_keeps_sound fixing counting (board x offers) kept.sound meet ballot v set (highest_accepted x set) _
-              (λ zero. omega arith) unfixed (fixes won) promised (accepted_below_highest x kept.five set) takes_over offered has_offer
+              (λ zero. omega arith) unfixed (fixes is_fix won) promised (accepted_below_highest x kept.five set) takes_over offered has_offer
               (get_or-set_same x.values ballot (value_for x offers ballot set) None (omega arith) ∙ value)
               (λ b other. get_or-set_other x.values ballot b (value_for x offers ballot set) None other);
         })
 
+    -- The ballot that is fixed has a value.
+    pub fixed_has_value : step ≡ 2 → fix_step x offers ballot set wins ≡ Some y → (v : ℕ) × (value_at y ballot ≡ Some v)
+    fixed_has_value is_fix is =
+        let (allowed, after) = allowed_step _ _ y is in
+        let (unfixed, all, won) = fix_conditions _ _ wins allowed in
+        let promised = promised_by_each x kept.five set ballot all in
+        let (v, value, takes_over, offered) = fix_finds_value ballot set (promised_has_offer (fixes is_fix won) promised) in
+        let sixteen : length x.values ≡ last_ballot + 1 = kept.sixteen in
+        rw (← after) (v, get_or-set_same x.values ballot (value_for x offers ballot set) None (omega arith) ∙ value)
+
     -- A count is of a ballot that a counting set accepted, and decides its value.
-    count_conditions : count_step x ballot set wins ≡ Some y
+    count_conditions : step ≡ 4 → count_step x ballot set wins ≡ Some y
         → (record x { decision = value_at x ballot } ≡ y) × (counting set ≡ true) × Each set (λ a. (acceptor_at x a).accepted ≡ ballot)
-    count_conditions is =
-        (grind arith, grind arith, accepted_by_each x kept.five set ballot (grind arith))
+    count_conditions is_count is =
+        (grind arith, grind (arith, counts is_count), accepted_by_each x kept.five set ballot (grind arith))
 
     -- Only the decision changes, as the safety of counting asks.
-    count_is_kept : count_step x ballot set wins ≡ Some y → Kept fixing counting offers y
-    count_is_kept is =
-        let (after, counted, accepted) = count_conditions is in
+    count_is_kept : step ≡ 4 → count_step x ballot set wins ≡ Some y → Kept fixing counting offers y
+    count_is_kept is_count is =
+        let (after, counted, accepted) = count_conditions is_count is in
         let sound = counting_keeps_sound fixing counting (board x offers) kept.sound meet all_fix ballot set (λ zero. omega arith) counted accepted in
         rw (← after) (record { five = kept.five; sixteen = kept.sixteen; sound = sound })
 
     -- The ballot that is counted is fixed.
-    pub counted_is_decided : count_step x ballot set wins ≡ Some y → (v : ℕ) × (value_at y ballot ≡ Some v) × (y.decision ≡ Some v)
-    counted_is_decided is =
-        let (after, counted, accepted) = count_conditions is in
+    pub counted_is_decided : step ≡ 4 → count_step x ballot set wins ≡ Some y → (v : ℕ) × (value_at y ballot ≡ Some v) × (y.decision ≡ Some v)
+    counted_is_decided is_count is =
+        let (after, counted, accepted) = count_conditions is_count is in
         let (v, value) = counted_is_fixed fixing counting (board x offers) kept.sound meet all_fix ballot set (λ zero. omega arith) counted accepted in
         rw (← after) (v, value, value)
 
     -- The ballot that is counted has the value that was decided.
-    count_keeps_decision : count_step x ballot set wins ≡ Some y → (v : ℕ) → x.decision ≡ Some v → y.decision ≡ Some v
-    count_keeps_decision is v decided =
-        let (after, counted, accepted) = count_conditions is in
+    count_keeps_decision : step ≡ 4 → count_step x ballot set wins ≡ Some y → (v : ℕ) → x.decision ≡ Some v → y.decision ≡ Some v
+    count_keeps_decision is_count is v decided =
+        let (after, counted, accepted) = count_conditions is_count is in
         rw (← after) (counting_keeps_decision fixing counting (board x offers) kept.sound meet all_fix ballot set (λ zero. omega arith) counted accepted v decided)
 
     -- Each of the four steps leaves the instance kept.
-    pub work_is_kept : (step : ℕ) → work_step x offers step ballot set wins ≡ Some y → Kept fixing counting offers y
-    work_is_kept step is = grind (arith, promise_is_kept ballot y (sole set) (sole_is_below set), fix_is_kept, accept_is_kept ballot y (sole set) (sole_is_below set), count_is_kept)
+    pub work_is_kept : work_step x offers step ballot set wins ≡ Some y → Kept fixing counting offers y
+    work_is_kept is =
+        ⊎_elim (promise_is_kept ballot y (sole set) (sole_is_below set))
+        (⊎_elim (λ (two, fixed). fix_is_kept two fixed)
+        (⊎_elim (accept_is_kept ballot y (sole set) (sole_is_below set)) (λ (four, counted). count_is_kept four counted)))
+        (four_steps x offers ballot set wins y step is)
 
     -- Only a count changes the decision, and it decides what was decided.
-    pub work_keeps_decision : (step : ℕ) → work_step x offers step ballot set wins ≡ Some y → (v : ℕ) → x.decision ≡ Some v → y.decision ≡ Some v
-    work_keeps_decision step is v decided = grind (
-      arith,
-      promise_keeps_rest x offers ballot set wins y (sole set),
-      accept_keeps_rest x offers ballot set wins y (sole set),
-      count_keeps_decision,
-    )
+    pub work_keeps_decision : work_step x offers step ballot set wins ≡ Some y → (v : ℕ) → x.decision ≡ Some v → y.decision ≡ Some v
+    work_keeps_decision is v decided =
+        ⊎_elim (λ promised. (promise_keeps_rest x offers ballot set wins y (sole set) promised).1 ∙ decided)
+        (⊎_elim (λ (two, fixed). (fix_keeps_rest x offers ballot set wins y fixed).1 ∙ decided)
+        (⊎_elim (λ accepted. (accept_keeps_rest x offers ballot set wins y (sole set) accepted).1 ∙ decided)
+        (λ (four, counted). count_keeps_decision four counted v decided)))
+        (four_steps x offers ballot set wins y step is)
 
 -- What is taken under a condition is taken, and the condition holds.
 under : (holds : Bool) (outcome : Option Instance) (y : Instance) → (if holds then outcome else None) ≡ Some y → (holds ≡ true) × (outcome ≡ Some y)
@@ -221,16 +247,16 @@ under true outcome y is = (refl, is)
 under false outcome y is = absurd cc
 
 -- Work that is taken is a step on a ballot from 1 to 15.
-pub worked_is : (x : Instance) (offers : List ℕ) (step ballot set : ℕ) (wins : Bool) (y : Instance) → worked x offers step ballot set wins ≡ Some y
+pub after_work_is : (x : Instance) (offers : List ℕ) (step ballot set : ℕ) (wins : Bool) (y : Instance) → after_work x offers step ballot set wins ≡ Some y
     → (1 ≤ ballot) × (ballot ≤ last_ballot) × (work_step x offers step ballot set wins ≡ Some y)
-worked_is x offers step ballot set wins y is =
+after_work_is x offers step ballot set wins y is =
     let (is_within, step_is) = under (within ballot set) _ y is in
     (grind (arith, nat_tests), grind (arith, nat_tests), step_is)
 
 -- So work keeps the instance, whether it is taken or not.
-pub work_stays_kept : (x : Instance) (offers : List ℕ) (step ballot set : ℕ) (wins : Bool) (outcome : Option Instance) → worked x offers step ballot set wins ≡ outcome
-    → StaysKept x offers set wins (or_same outcome x)
+pub work_stays_kept : (x : Instance) (offers : List ℕ) (step ballot set : ℕ) (wins : Bool) (outcome : Option Instance) → after_work x offers step ballot set wins ≡ outcome
+    → StaysKept x offers step set wins (or_same outcome x)
 work_stays_kept x offers step ballot set wins None is fixing counting meet all_fix all_count fixes counts kept = kept
 work_stays_kept x offers step ballot set wins (Some y) is fixing counting meet all_fix all_count fixes counts kept =
-    let (first, last, step_is) = worked_is x offers step ballot set wins y is in
-    work_is_kept kept meet all_fix all_count ballot set wins fixes counts first last y step step_is
+    let (low, high, step_is) = after_work_is x offers step ballot set wins y is in
+    work_is_kept kept meet all_fix all_count ballot set wins step fixes counts low high y step_is

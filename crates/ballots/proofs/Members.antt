@@ -5,7 +5,8 @@ use Rattle.std.proofs.Common.{zero-add, arith}
 use Rattle.std.proofs.lemmas.Bool.{eqb-true}
 use Rattle.quorum.specs.Sets.{member}
 use Rattle.ballots.specs.declared.instance.Instance.{Instance}
-use Rattle.ballots.specs.Board.{acceptors, Each}
+use Rattle.ballots.specs.Limits.{acceptors}
+use Rattle.ballots.specs.Board.{Each}
 use Rattle.ballots.specs.Instance.{fresh, acceptor_at, all_promised, all_accepted, highest_accepted}
 
 -- Those of some items that are inside, each with its place, the first at a given place.

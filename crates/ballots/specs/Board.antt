@@ -1,17 +1,10 @@
--- Ballots under one number, and what five acceptors keep of them.
+-- What holds of ballots at all times under one number. A reader need not believe it: it is what the proof that no two values are decided rests on.
 use Rattle.std.specs.Prelude.{◌≡◌, ℕ, ◌%◌, ◌<◌, ◌≤◌, ◌≢◌, ◌⊎◌, Bool, true, List, length, Option, Some, None, is_some}
 use Rattle.chooser.specs.Meaning.{one_of}
 use Rattle.quorum.specs.Sets.{member, Share}
+use Rattle.ballots.specs.Limits.{acceptors, owner}
 
--- how many acceptors each number has
-abbrev pub acceptors : ℕ
-acceptors = 5
-
--- A ballot belongs to one of the first offers: ballot b to the offer at b mod 8, counted from 0.
-abbrev pub owner : ℕ → ℕ
-owner ballot = ballot % 8
-
--- What is known under one number. Ballot 0 stands for none: no acceptor starts with another.
+-- What is kept under one number, by acceptor and by ballot. Ballot 0 stands for none.
 pub record Board : Type 0 where
   pub promised : ℕ → ℕ  -- by acceptor: the ballot that it promised
   pub accepted : ℕ → ℕ  -- by acceptor: the ballot that it accepted last
@@ -27,22 +20,22 @@ Each set P = (acceptor : ℕ) → acceptor < acceptors → member acceptor set �
 abbrev pub Meet : (ℕ → Bool) → (ℕ → Bool) → Type 0
 Meet fixing counting = (f c : ℕ) → fixing f ≡ true → counting c ≡ true → Share acceptors f c
 
--- The ballot can be counted no more, now or later: in each counting set somebody has promised a later ballot and had not accepted this one.
+-- The ballot can be counted no more, now or later: of no counting set have all that promised a higher ballot accepted this one last.
 abbrev pub Dead : (ℕ → Bool) → Board → ℕ → Type 0
 Dead counting x ballot =
     (set : ℕ) → counting set ≡ true → Each set (λ a. ballot < x.promised a → x.accepted a ≡ ballot) → ⊥
 
--- a fixing set has promised the ballot or a later one
+-- a fixing set has promised the ballot or a higher one
 pub record Backed (fixing : ℕ → Bool) (x : Board) (ballot : ℕ) : Type 0 where
   pub set : ℕ
   pub wins : fixing set ≡ true
   pub promised : Each set (λ a. ballot ≤ x.promised a)
 
--- The value is chosen: some ballot of this value was accepted by a counting set, and no ballot from it on has another value.
+-- The value is chosen: each of some counting set accepted last a ballot of this value or a higher one, and no ballot from that one on has another value.
 pub record Chosen (counting : ℕ → Bool) (x : Board) (value : ℕ) : Type 0 where
   pub ballot : ℕ
   pub fixed : x.value ballot ≡ Some value
-  pub later : (b v : ℕ) → ballot ≤ b → x.value b ≡ Some v → v ≡ value
+  pub higher : (b v : ℕ) → ballot ≤ b → x.value b ≡ Some v → v ≡ value
   pub set : ℕ
   pub wins : counting set ≡ true
   pub accepted : Each set (λ a. ballot ≤ x.accepted a)
@@ -63,26 +56,7 @@ pub record Sound (fixing counting : ℕ → Bool) (x : Board) : Type 0 where
   pub value_is_offered : (b v : ℕ) → x.value b ≡ Some v → one_of x.offers v ≡ true
   -- a ballot is fixed when a fixing set has promised it, and promises only grow
   pub fixed_is_backed : (b v : ℕ) → x.value b ≡ Some v → Backed fixing x b
-  -- a ballot whose value a later one did not take over can be counted no more
-  pub passed_over_is_dead : (b later v w : ℕ) → b < later → x.value b ≡ Some v → x.value later ≡ Some w → v ≢ w → Dead counting x b
+  -- a ballot whose value a higher one did not take over can be counted no more
+  pub passed_over_is_dead : (b higher v w : ℕ) → b < higher → x.value b ≡ Some v → x.value higher ≡ Some w → v ≢ w → Dead counting x b
   -- only a chosen value is decided
   pub decided_is_chosen : (v : ℕ) → x.decision ≡ Some v → Chosen counting x v
-
--- The board after a step: one field is another.
-abbrev pub with_acceptors : Board → (ℕ → ℕ) → (ℕ → ℕ) → Board
-with_acceptors x promised accepted = record { promised = promised; accepted = accepted; value = x.value; offers = x.offers; decision = x.decision }
-
-abbrev pub with_value : Board → (ℕ → Option ℕ) → Board
-with_value x value = record { promised = x.promised; accepted = x.accepted; value = value; offers = x.offers; decision = x.decision }
-
-abbrev pub with_offers : Board → List ℕ → Board
-with_offers x offers = record { promised = x.promised; accepted = x.accepted; value = x.value; offers = offers; decision = x.decision }
-
-abbrev pub with_decision : Board → Option ℕ → Board
-with_decision x decision = record { promised = x.promised; accepted = x.accepted; value = x.value; offers = x.offers; decision = decision }
-
--- How a promise or an accept may change what an acceptor keeps: its promise does not fall, and it accepted last what it had, or what it now promises, a fixed ballot not below its promise.
-pub record Moved (x : Board) (promised accepted : ℕ → ℕ) (a : ℕ) : Type 0 where
-  pub promise_grows : x.promised a ≤ promised a
-  pub accepts : (accepted a ≡ x.accepted a) ⊎ ((accepted a ≡ promised a) × (is_some (x.value (accepted a)) ≡ true) × (x.promised a ≤ accepted a))
-  pub has_offer : promised a ≢ 0 → owner (promised a) < length x.offers

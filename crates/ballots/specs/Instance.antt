@@ -6,11 +6,7 @@ use Rattle.chooser.specs.Meaning.{Answer}
 use Rattle.quorum.specs.Sets.{member}
 use Rattle.ballots.specs.declared.instance.Acceptor.{Acceptor}
 use Rattle.ballots.specs.declared.instance.Instance.{Instance}
-use Rattle.ballots.specs.Board.{acceptors, owner}
-
--- the highest ballot
-abbrev pub last_ballot : ℕ
-last_ballot = 15
+use Rattle.ballots.specs.Limits.{acceptors, last_ballot, owner}
 
 -- ballots are 1 to 15, and a set has no other places than those of the acceptors
 abbrev pub within : ℕ → ℕ → Bool
@@ -104,8 +100,8 @@ work_step x offers step ballot set wins =
     if step == 4 then count_step x ballot set wins else None
 
 -- Work: a step on a ballot from 1 to 15, for a set of the five acceptors; none if it is not allowed.
-abbrev pub worked : Instance → List ℕ → ℕ → ℕ → ℕ → Bool → Option Instance
-worked x offers step ballot set wins = if within ballot set then work_step x offers step ballot set wins else None
+abbrev pub after_work : Instance → List ℕ → ℕ → ℕ → ℕ → Bool → Option Instance
+after_work x offers step ballot set wins = if within ballot set then work_step x offers step ballot set wins else None
 
 -- what is answered: taken if the step is allowed, else refused with 3
 abbrev pub answer_of : Option Instance → Answer

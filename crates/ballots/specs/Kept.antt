@@ -1,9 +1,10 @@
--- What an instance keeps at all times, whatever happens to it.
+-- What an instance keeps at all times, whatever happens to it. A reader need not believe it, as for the board.
 use Rattle.std.specs.Prelude.{◌≡◌, ℕ, ◌+◌, Bool, true, List, length}
 use Rattle.ballots.specs.declared.instance.Instance.{Instance}
 use Rattle.quorum.specs.Sets.{everyone}
-use Rattle.ballots.specs.Board.{acceptors, Board, Meet, Sound}
-use Rattle.ballots.specs.Instance.{last_ballot, acceptor_at, value_at}
+use Rattle.ballots.specs.Limits.{acceptors, last_ballot}
+use Rattle.ballots.specs.Board.{Board, Meet, Sound}
+use Rattle.ballots.specs.Instance.{acceptor_at, value_at}
 
 -- an instance and its offers as a board
 abbrev pub board : Instance → List ℕ → Board
@@ -21,9 +22,9 @@ pub record Kept (fixing counting : ℕ → Bool) (offers : List ℕ) (x : Instan
   pub sixteen : length x.values ≡ last_ballot + 1
   pub sound : Sound fixing counting (board x offers)
 
--- A change for a set that wins, or does not, keeps the instance: over all families of sets that fix ballots and that count them, so long as each fixing set meets each counting set, everyone is one of both, and the set is one if it wins.
-abbrev pub StaysKept : Instance → List ℕ → ℕ → Bool → Instance → Type 0
-StaysKept before offers set wins after =
+-- Work keeps all this, for every family of fixing and every family of counting sets, if each fixing set meets each counting set and all acceptors together are one of both; a set that wins has to be a fixing set at step 2 only, and a counting set at step 4 only.
+abbrev pub StaysKept : Instance → List ℕ → ℕ → ℕ → Bool → Instance → Type 0
+StaysKept before offers step set wins after =
     (fixing counting : ℕ → Bool) → Meet fixing counting → fixing (everyone acceptors) ≡ true → counting (everyone acceptors) ≡ true
-    → (wins ≡ true → fixing set ≡ true) → (wins ≡ true → counting set ≡ true)
+    → (step ≡ 2 → wins ≡ true → fixing set ≡ true) → (step ≡ 4 → wins ≡ true → counting set ≡ true)
     → Kept fixing counting offers before → Kept fixing counting offers after

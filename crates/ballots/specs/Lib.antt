@@ -1,3 +1,4 @@
+pub mod Limits
 pub mod Board
 pub mod Instance
 pub mod Kept

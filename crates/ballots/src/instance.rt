@@ -1,7 +1,7 @@
 //! What is kept under one number, and the four steps that change it.
 ghost use Rattle.std.specs.Prelude.{◌≡◌, ◌≤◌};
-ghost use Rattle.ballots.specs.Board.{owner};
-ghost use Rattle.ballots.specs.Instance.{blank, value_at, highest_accepted, value_for, all_promised, all_accepted, promise_step, fix_step, accept_step, count_step, work_step, worked, last_ballot, answer_of, or_same};
+ghost use Rattle.ballots.specs.Limits.{last_ballot, owner};
+ghost use Rattle.ballots.specs.Instance.{blank, value_at, highest_accepted, value_for, all_promised, all_accepted, promise_step, fix_step, accept_step, count_step, work_step, after_work, answer_of, or_same};
 ghost use Rattle.ballots.specs.Kept.{StaysKept};
 
 use crate::sets::{sole, within};
@@ -56,18 +56,18 @@ impl Instance {
         wins: bool,
         offers: &[u8],
     ) -> Result<(), ChooserRefusal>
-        ensures answered { result ≡ answer_of (worked self.old offers.now step ballot set wins) }
-        ensures after { self.new ≡ or_same (worked self.old offers.now step ballot set wins) self.old }
-        ensures stays_kept { StaysKept self.old offers.now set wins self.new }
+        ensures answered { result ≡ answer_of (after_work self.old offers.now step ballot set wins) }
+        ensures after { self.new ≡ or_same (after_work self.old offers.now step ballot set wins) self.old }
+        ensures stays_kept { StaysKept self.old offers.now step set wins self.new }
     {
         if !within(ballot, set) {
             return Err(ChooserRefusal::NotAllowed);
         }
-        self.make(step, ballot, set, wins, offers)
+        self.step(step, ballot, set, wins, offers)
     }
 
     // One of the four steps, by its number.
-    fn make(
+    fn step(
         &mut self,
         step: u8,
         ballot: u8,

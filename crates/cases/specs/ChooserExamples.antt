@@ -9,9 +9,9 @@ use Rattle.chooser.specs.Meaning.{OfferLists, Answer, decision_at, offer_answer,
 use Rattle.chooser.specs.Refusals.{refusal_number}
 use Rattle.ledger.specs.Ledger.{firsts}
 use Rattle.quorum.specs.Rules.{more_than_half}
-use Rattle.ballots.specs.Board.{acceptors}
+use Rattle.ballots.specs.Limits.{acceptors}
 use Rattle.ballots.specs.Instance.{blank, value_at}
-use Rattle.synod.specs.Invariant.{instance_at}
+use Rattle.synod.specs.Lookup.{instance_at}
 use Rattle.synod.specs.Synod.{Tables, decisions_of}
 use Rattle.synod.specs.Played.{answers_to, after_calls}
 

@@ -3,7 +3,7 @@ ghost use Rattle.std.specs.Prelude.{◌≡◌, Some};
 ghost use Rattle.chooser.specs.Runs.{calls_of};
 ghost use Rattle.cases.specs.ChooserExamples.{ChooserExamples, contested};
 
-use chooser::{Call, Chooser, Turn, make};
+use chooser::{Call, Chooser, Turn, make_call};
 use ledger::Ledger;
 use quorum::Majority;
 use synod::{Synod, play};
@@ -13,14 +13,14 @@ pub fn first_offer_decided() -> Option<u8>
     ensures { result ≡ Some 4 }
 {
     let mut ledger = Ledger::new();
-    let _ = make(
+    let _ = make_call(
         &mut ledger,
         Call::Offer {
             number: 0,
             value: 4,
         },
     );
-    let _ = make(
+    let _ = make_call(
         &mut ledger,
         Call::Offer {
             number: 0,

@@ -20,14 +20,10 @@ Run {S} offering working before (turn ∷ turns) after =
 abbrev pub calls_of : List Turn → List Call
 calls_of turns = map (λ (turn : Turn). turn.call) turns
 
--- every decision that stands before stands after
-abbrev pub DecisionsStay : Decisions → Decisions → Type 0
-DecisionsStay before after = (number value : ℕ) → decision_at before number ≡ Some value → decision_at after number ≡ Some value
-
--- every decision is one of the offers under its number
-abbrev pub DecidedIsOffered : Decisions → OfferLists → Type 0
-DecidedIsOffered decided lists = (number value : ℕ) → decision_at decided number ≡ Some value → one_of (offers_at lists number) value ≡ true
-
 -- the answers of turns
 abbrev pub answers_of : List Turn → List (Option Answer)
 answers_of turns = map (λ (turn : Turn). turn.answer) turns
+
+-- every decision that stands before stands after
+abbrev pub DecisionsStay : Decisions → Decisions → Type 0
+DecisionsStay before after = (number value : ℕ) → decision_at before number ≡ Some value → decision_at after number ≡ Some value

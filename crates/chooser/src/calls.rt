@@ -1,6 +1,6 @@
 //! Calls on a chooser as values, and many of them made one after the other.
 ghost use Rattle.std.specs.Prelude.{◌≡◌};
-ghost use Rattle.chooser.specs.Runs.{Does, Run, calls_of, DecisionsStay, DecidedIsOffered};
+ghost use Rattle.chooser.specs.Runs.{Does, Run, calls_of, DecisionsStay};
 
 use crate::{Chooser, ChooserRefusal};
 
@@ -12,7 +12,7 @@ pub enum Call {
         number: u8,
         value: u8,
     },
-    /// a step of work on a ballot of a number, for a set of acceptors
+    /// a step of work under a number
     Work {
         number: u8,
         step: u8,
@@ -29,10 +29,9 @@ pub struct Turn {
 }
 
 /// Makes one call.
-pub fn make<S: Chooser>(chooser: &mut S, call: Call) -> Result<(), ChooserRefusal>
+pub fn make_call<S: Chooser>(chooser: &mut S, call: Call) -> Result<(), ChooserRefusal>
     ensures does { Does S.offering S.working chooser.old call result chooser.new }
     ensures decisions_stay { DecisionsStay (S.decided chooser.old) (S.decided chooser.new) }
-    ensures decided_is_offered { DecidedIsOffered (S.decided chooser.new) (S.offers chooser.new) }
 {
     match call {
         Call::Offer { number, value } => chooser.offer(number, value),
@@ -50,9 +49,8 @@ pub fn play<S: Chooser>(chooser: &mut S, turns: &mut [Turn])
     ensures run { Run S.offering S.working chooser.old turns.new chooser.new }
     ensures same_calls { calls_of turns.new ≡ calls_of turns.old }
     ensures decisions_stay { DecisionsStay (S.decided chooser.old) (S.decided chooser.new) }
-    ensures decided_is_offered { DecidedIsOffered (S.decided chooser.new) (S.offers chooser.new) }
 {
     for turn in turns.iter_mut() {
-        turn.answer = Some(make(chooser, turn.call));
+        turn.answer = Some(make_call(chooser, turn.call));
     }
 }

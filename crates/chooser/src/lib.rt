@@ -3,14 +3,14 @@
 
 ghost use Rattle.std.specs.Prelude.{◌≡◌, ℕ, ◌≤◌, length, true, Some};
 ghost use Rattle.chooser.specs.Limits.{numbers, most_offers, highest_offer};
-ghost use Rattle.chooser.specs.Meaning.{OfferLists, Decisions, Answer, offers_at, decision_at, one_of};
+ghost use Rattle.chooser.specs.Meaning.{OfferLists, Decisions, Answer, offers_at, decision_at, one_of, DecidedIsOffered};
 ghost use Rattle.chooser.specs.Laws.{Offered, Worked};
 
 mod calls;
 mod offers;
 mod refusal;
 
-pub use calls::{Call, Turn, make, play};
+pub use calls::{Call, Turn, make_call, play};
 pub use offers::{OfferTable, Offers};
 pub use refusal::ChooserRefusal;
 
@@ -29,10 +29,11 @@ pub trait Chooser {
     /// What was offered.
     ghost offers: { Self → OfferLists };
 
-    /// What offering does in this implementation, exactly: the chooser before, number, value, answer, the chooser after.
+    /// What offering does in this implementation: the chooser before, number, value, answer, the chooser after.
+    /// It says no less than the laws below; callers of generic code learn what it says.
     ghost offering: { Self → ℕ → ℕ → Answer → Self → Type 0 };
 
-    /// What work does in this implementation, exactly: the chooser before, number, step, ballot, set, answer, the chooser after.
+    /// What work does in this implementation: the chooser before, number, step, ballot, set, answer, the chooser after.
     ghost working: { Self → ℕ → ℕ → ℕ → ℕ → Answer → Self → Type 0 };
 
     /// What is decided under the number, if something is.
@@ -43,7 +44,7 @@ pub trait Chooser {
     fn offer(&mut self, number: u8, value: u8) -> Result<(), ChooserRefusal>
         ensures { offering self.old number value result self.new };
 
-    /// A step of work on a ballot of the number, for a set of acceptors. Any four numbers may be asked for, so they are no types of their own.
+    /// A step of work under the number. What step, ballot and set mean is up to the chooser; any may be asked for, so they are no types of their own.
     fn work(&mut self, number: u8, step: u8, ballot: u8, set: u8) -> Result<(), ChooserRefusal>
         ensures { working self.old number step ballot set result self.new };
 
@@ -60,7 +61,7 @@ pub trait Chooser {
     ghost offers_are_bytes: { (s : Self) (number value : ℕ) → one_of (offers_at (offers s) number) value ≡ true → value ≤ highest_offer };
 
     /// A decision is one of the offers.
-    ghost decided_is_offered: { (s : Self) (number value : ℕ) → decision_at (decided s) number ≡ Some value → one_of (offers_at (offers s) number) value ≡ true };
+    ghost decided_is_offered: { (s : Self) → DecidedIsOffered (decided s) (offers s) };
 
     /// Offering keeps to the rules.
     ghost offering_is_lawful: { (s t : Self) (number value : ℕ) (answer : Answer) → offering s number value answer t → Offered (decided s) (offers s) number value answer (decided t) (offers t) };

@@ -58,13 +58,12 @@ pub struct OfferTable {
 }
 
 impl OfferTable {
-    ghost use Rattle.std.specs.Prelude.{[], replicate};
-    ghost use Rattle.chooser.specs.Meaning.{offers_at, offer_answer, lists_with};
+    ghost use Rattle.chooser.specs.Meaning.{no_offers, offers_at, offer_answer, lists_with};
     ghost use Rattle.chooser.specs.Listed.{listed, lists_of};
 
     /// No offers yet.
     pub fn new() -> OfferTable
-        ensures { lists_of result ≡ replicate numbers [] }
+        ensures { lists_of result ≡ no_offers }
     {
         OfferTable {
             offers: [Offers::new(); NUMBERS as usize],

@@ -12,7 +12,7 @@ pub enum ChooserRefusal {
     TooHigh = 1,
     /// Eight offers stand under the number already.
     Full = 2,
-    /// The chooser does not allow this step, now or ever.
+    /// The chooser does not allow this step, at least not now.
     NotAllowed = 3,
 }
 

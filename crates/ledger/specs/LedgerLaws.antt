@@ -1,6 +1,7 @@
 -- The ledger keeps the laws of choosers; a reader need not believe this file.
 use Rattle.std.specs.Prelude.{◌≡◌, ℕ, zero, suc, ◌<◌, true, List, [], ◌∷◌, ◌++◌, length, Some, Ok, Err, refl}
 use Rattle.std.proofs.Common.{sym, ◌∙◌, inr, arith}
+use Rattle.std.proofs.Math.ListN.{get_or-map}
 use Rattle.std.proofs.lemmas.List.{length-map, map-set}
 use Rattle.std.proofs.lemmas.Bool.Decides.{nat_tests}
 use Rattle.chooser.specs.Limits.{numbers}
@@ -16,9 +17,7 @@ sixteen_firsts ledger = length-map (ledger_lists ledger) first_of ∙ sixteen_li
 
 -- the decision under a number is the first of its offers
 first_at : (lists : OfferLists) (number : ℕ) → decision_at (firsts lists) number ≡ first_of (offers_at lists number)
-first_at [] number = refl
-first_at (offers ∷ lists) zero = refl
-first_at (offers ∷ lists) (suc number) = first_at lists number
+first_at lists number = get_or-map first_of lists number []
 
 decided_at : (lists : OfferLists) (number : ℕ) → first_of (offers_at lists number) ≡ decision_at (firsts lists) number
 decided_at lists number = sym (first_at lists number)

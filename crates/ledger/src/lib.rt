@@ -1,8 +1,8 @@
-//! The chooser by which the first comes first.
+//! The chooser that decides the first offer.
 #![tactic(auto)]
 
-ghost use Rattle.std.specs.Prelude.{◌≡◌, [], replicate};
-ghost use Rattle.chooser.specs.Limits.{numbers};
+ghost use Rattle.std.specs.Prelude.{◌≡◌};
+ghost use Rattle.chooser.specs.Meaning.{no_offers};
 ghost use Rattle.chooser.specs.TableLaws.{sixteen_lists as lists_stand, eight_at_most as eight_stand, offers_are_bytes as bytes_stand};
 ghost use Rattle.ledger.specs.Ledger.{ledger_lists, firsts, LedgerOffered, LedgerWorked};
 ghost use Rattle.ledger.specs.LedgerLaws.{sixteen_firsts, first_is_offered, offering_keeps, working_keeps};
@@ -19,7 +19,7 @@ pub struct Ledger {
 impl Ledger {
     /// Nothing is offered yet.
     pub fn new() -> Ledger
-        ensures { ledger_lists result ≡ replicate numbers [] }
+        ensures { ledger_lists result ≡ no_offers }
     {
         Ledger {
             offers: OfferTable::new(),

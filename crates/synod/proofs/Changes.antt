@@ -1,4 +1,4 @@
--- A change of one number keeps all numbers.
+-- Where one number changes as it may, what holds of all numbers still holds.
 use Rattle.std.proofs.Common.{◌≡◌, ℕ, ◌<◌, Bool, List, [], length, slice_set, Option, Some, None, Ok, Err, ok_or, refl, sym, ap, ◌∙◌, ⊎_elim, arith}
 use Rattle.std.proofs.Math.Logic.{∥∥₁_map}
 use Rattle.std.proofs.lemmas.Bool.{cases_eq}
@@ -10,14 +10,15 @@ use Rattle.chooser.specs.Listed.{lists_of}
 use Rattle.chooser.specs.Meaning.{OfferLists, Answer, offers_at, offer_answer, lists_with}
 use Rattle.chooser.specs.TableLaws.{sixteen_lists}
 use Rattle.ballots.specs.declared.instance.Instance.{Instance}
-use Rattle.ballots.specs.Instance.{worked, answer_of, or_same}
+use Rattle.ballots.specs.Instance.{after_work, answer_of, or_same}
 use Rattle.ballots.specs.Kept.{Kept, StaysKept}
 use Rattle.ballots.proofs.KeptLaws.{offering_is_kept}
 use Rattle.synod.specs.declared.synod.Synod.{Synod}
-use Rattle.synod.specs.Invariant.{won, no_instance, instance_at, AllKept}
+use Rattle.synod.specs.Lookup.{won, no_instance, instance_at}
+use Rattle.synod.specs.Invariant.{AllKept}
 use Rattle.synod.specs.Meeting.{meeting}
 use Rattle.synod.specs.Synod.{tables_of, worked_at, taken, instances_with}
-use Rattle.synod.specs.SynodLaws.{choose_below}
+use Rattle.synod.specs.SynodLaws.{if_below}
 
 -- the number's new offers and instance are kept, the others are as before
 all_kept_with : (fixing counting : ℕ → Bool) (lists : OfferLists) (instances : List Instance) (number : ℕ) (offers : List ℕ) (x : Instance)
@@ -50,14 +51,14 @@ offer_keeps_all synod number value (Ok _) is =
     rw same at all
 
 -- a step that keeps the number's own instance
-pub work_keeps_all : (synod : Synod) (number set : ℕ) (after : Instance) → number < numbers
-    → StaysKept (instance_at synod.instances number) (offers_at (lists_of synod.offers) number) set (won synod.wins set) after
+pub work_keeps_all : (synod : Synod) (number step set : ℕ) (after : Instance) → number < numbers
+    → StaysKept (instance_at synod.instances number) (offers_at (lists_of synod.offers) number) step set (won synod.wins set) after
     → AllKept (won synod.wins) (won synod.wins) (lists_of synod.offers) (slice_set synod.instances number after)
-work_keeps_all synod number set after inside stays =
+work_keeps_all synod number step set after inside stays =
     let lists = lists_of synod.offers in
     let meet = meeting (won synod.wins) (won synod.wins) synod.never_apart in
     let kept = ∥∥₁_map (synod.all_kept number inside)
-    (stays (won synod.wins) (won synod.wins) meet synod.everyone_wins synod.everyone_wins (λ wins. wins) (λ wins. wins)) in
+    (stays (won synod.wins) (won synod.wins) meet synod.everyone_wins synod.everyone_wins (λ _ wins. wins) (λ _ wins. wins)) in
     let all = all_kept_with (won synod.wins) (won synod.wins) lists synod.instances number (offers_at lists number) after
     (sixteen_lists synod.offers) synod.sixteen inside synod.all_kept kept in
     let same : slice_set lists number (offers_at lists number) ≡ lists = set-get_or lists number [] in
@@ -71,13 +72,13 @@ put_back instances number (Some after) = (refl, refl)
 
 -- what the step made of the number's own instance is what the definition of work says
 pub work_is : (synod : Synod) (number step ballot set : ℕ) (answer : Answer) (after : Instance) → number < numbers
-    → answer ≡ answer_of (worked (instance_at synod.instances number) (offers_at (lists_of synod.offers) number) step ballot set (won synod.wins set))
-    → after ≡ or_same (worked (instance_at synod.instances number) (offers_at (lists_of synod.offers) number) step ballot set (won synod.wins set)) (instance_at synod.instances number)
+    → answer ≡ answer_of (after_work (instance_at synod.instances number) (offers_at (lists_of synod.offers) number) step ballot set (won synod.wins set))
+    → after ≡ or_same (after_work (instance_at synod.instances number) (offers_at (lists_of synod.offers) number) step ballot set (won synod.wins set)) (instance_at synod.instances number)
     → (answer ≡ taken (worked_at (tables_of synod) number step ballot set))
     × (slice_set synod.instances number after ≡ instances_with (worked_at (tables_of synod) number step ballot set) synod.instances number)
 work_is synod number step ballot set answer after inside answered left =
-    let (same_answer, same_instances) = put_back synod.instances number (worked (instance_at synod.instances number) (offers_at (lists_of synod.offers) number) step ballot set (won synod.wins set)) in
-    let here = choose_below number _ _ inside in (
+    let (same_answer, same_instances) = put_back synod.instances number (after_work (instance_at synod.instances number) (offers_at (lists_of synod.offers) number) step ballot set (won synod.wins set)) in
+    let here = if_below number _ _ inside in (
       answered ∙ same_answer ∙ ap taken (sym here),
       ap (slice_set synod.instances number) left ∙ same_instances ∙ ap (λ outcome. instances_with outcome synod.instances number) (sym here),
     )

@@ -4,20 +4,9 @@ use Rattle.chooser.specs.Limits.{numbers}
 use Rattle.chooser.specs.Meaning.{OfferLists, offers_at}
 use Rattle.quorum.specs.Sets.{Share}
 use Rattle.ballots.specs.declared.instance.Instance.{Instance}
-use Rattle.ballots.specs.Board.{acceptors}
+use Rattle.ballots.specs.Limits.{acceptors}
 use Rattle.ballots.specs.Kept.{Kept}
-
--- the rule's answer for a set
-abbrev pub won : List Bool → ℕ → Bool
-won wins set = get_or wins set false
-
--- where there is no number there is no instance
-abbrev pub no_instance : Instance
-no_instance = record { acceptors = []; values = []; decision = None }
-
--- the instance of a number
-abbrev pub instance_at : List Instance → ℕ → Instance
-instance_at instances number = get_or instances number no_instance
+use Rattle.synod.specs.Lookup.{instance_at}
 
 -- no fixing set and no counting set are apart
 abbrev pub NeverApart : (ℕ → Bool) → (ℕ → Bool) → Type 0

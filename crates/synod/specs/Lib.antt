@@ -1,3 +1,4 @@
+pub mod Lookup
 pub mod Invariant
 pub mod Meeting
 pub mod Synod

@@ -3,7 +3,8 @@ use Rattle.std.specs.Prelude.{◌≡◌, ℕ, zero, suc, Bool, true, false, ◌&
 use Rattle.std.proofs.Common.{sym, inl, inr, ⊎_elim, arith}
 use Rattle.std.proofs.lemmas.Bool.{cases_eq, and_parts}
 use Rattle.quorum.specs.Sets.{member, Share}
-use Rattle.ballots.specs.Board.{acceptors, Meet}
+use Rattle.ballots.specs.Limits.{acceptors}
+use Rattle.ballots.specs.Board.{Meet}
 use Rattle.synod.specs.Invariant.{NeverApart}
 
 -- where the first places share none and the next is not in both sets, no place is shared

@@ -8,9 +8,9 @@ use Rattle.chooser.specs.Limits.{numbers}
 use Rattle.chooser.specs.Listed.{lists_of}
 use Rattle.chooser.specs.Meaning.{OfferLists, Decisions, Answer, offers_at, offer_answer, lists_with}
 use Rattle.ballots.specs.declared.instance.Instance.{Instance}
-use Rattle.ballots.specs.Instance.{value_at, worked}
+use Rattle.ballots.specs.Instance.{value_at, after_work}
 use Rattle.synod.specs.declared.synod.Synod.{Synod}
-use Rattle.synod.specs.Invariant.{won, instance_at}
+use Rattle.synod.specs.Lookup.{won, instance_at}
 
 -- All that a synod keeps: the rule's answers for the 32 sets, the offers, and an instance for each number.
 pub record Tables : Type 0 where
@@ -32,7 +32,7 @@ ballot_value synod number ballot = value_at (instance_at synod.instances number)
 -- What work makes of the instance of a number, for a set that wins by the rule's answer. Refused with 1 above the last number, with 3 if the step is not allowed.
 abbrev pub worked_at : Tables → ℕ → ℕ → ℕ → ℕ → Result Instance ChooserRefusal
 worked_at t number step ballot set =
-    if nat_lt number numbers then ok_or (worked (instance_at t.instances number) (offers_at t.lists number) step ballot set (won t.wins set)) NotAllowed
+    if nat_lt number numbers then ok_or (after_work (instance_at t.instances number) (offers_at t.lists number) step ballot set (won t.wins set)) NotAllowed
     else Err TooHigh
 
 -- taken, or why not

@@ -5,6 +5,7 @@ use Rattle.std.proofs.Math.Logic.{∥∥₁_elim}
 use Rattle.std.proofs.Props.{props}
 use Rattle.std.proofs.lemmas.Bool.{cases_lt}
 use Rattle.std.proofs.lemmas.Bool.Decides.{nat_tests}
+use Rattle.std.proofs.Math.ListN.{get_or-map}
 use Rattle.std.proofs.lemmas.List.{length-map, map-set, get_or_past}
 use Rattle.chooser.specs.declared.calls.Call.TheVariants.{Offer, Work}
 use Rattle.chooser.specs.declared.refusal.ChooserRefusal.{ChooserRefusal}
@@ -15,10 +16,10 @@ use Rattle.chooser.specs.Meaning.{Answer, offers_at, decision_at, one_of, lists_
 use Rattle.chooser.specs.Laws.{Deciding, Offered, Worked}
 use Rattle.chooser.specs.Deciding.{nothing_decided, one_decided}
 use Rattle.ballots.specs.declared.instance.Instance.{Instance}
-use Rattle.ballots.specs.Instance.{worked}
-use Rattle.ballots.proofs.KeptLaws.{decided_is_among, worked_is, work_keeps_decision}
+use Rattle.ballots.specs.Instance.{after_work}
+use Rattle.ballots.proofs.KeptLaws.{decided_is_among, after_work_is, work_keeps_decision}
 use Rattle.synod.specs.declared.synod.Synod.{Synod}
-use Rattle.synod.specs.Invariant.{won, instance_at}
+use Rattle.synod.specs.Lookup.{won, no_instance, instance_at}
 use Rattle.synod.specs.Meeting.{meeting}
 use Rattle.synod.specs.Synod.{Tables, tables_of, decisions_of, worked_at, taken, instances_with, Made}
 
@@ -27,9 +28,7 @@ sixteen_decisions synod = length-map synod.instances (λ (x : Instance). x.decis
 
 -- the decision under a number is that of its instance
 pub decision_is : (instances : List Instance) (number : ℕ) → decision_at (decisions_of instances) number ≡ (instance_at instances number).decision
-decision_is [] number = refl
-decision_is (x ∷ xs) zero = refl
-decision_is (x ∷ xs) (suc number) = decision_is xs number
+decision_is instances number = get_or-map (λ (x : Instance). x.decision) instances number no_instance
 
 pub decided_is_offered : (synod : Synod) (number value : ℕ) → decision_at (decisions_of synod.instances) number ≡ Some value
     → one_of (offers_at (lists_of synod.offers) number) value ≡ true
@@ -61,10 +60,10 @@ under true None y is = absurd cc
 under false outcome y is = absurd cc
 
 pub worked_at_is : (t : Tables) (number step ballot set : ℕ) (y : Instance) → worked_at t number step ballot set ≡ Ok y
-    → (number < numbers) × (worked (instance_at t.instances number) (offers_at t.lists number) step ballot set (won t.wins set) ≡ Some y)
+    → (number < numbers) × (after_work (instance_at t.instances number) (offers_at t.lists number) step ballot set (won t.wins set) ≡ Some y)
 worked_at_is t number step ballot set y is =
-    let (inside, worked_is) = under (nat_lt number numbers) _ y is in
-    (grind (arith, nat_tests), worked_is)
+    let (inside, after_work_is) = under (nat_lt number numbers) _ y is in
+    (grind (arith, nat_tests), after_work_is)
 
 -- a decision that stands stays
 deciding_by : (synod : Synod) (number step ballot set : ℕ) (outcome : Result Instance ChooserRefusal) → worked_at (tables_of synod) number step ballot set ≡ outcome
@@ -72,25 +71,25 @@ deciding_by : (synod : Synod) (number step ballot set : ℕ) (outcome : Result I
 deciding_by synod number step ballot set (Err why) is = nothing_decided (decisions_of synod.instances) number (Err why)
 deciding_by synod number step ballot set (Ok y) is =
     let (inside, y_is) = worked_at_is (tables_of synod) number step ballot set y is in
-    let (first, last, step_is) = worked_is (instance_at synod.instances number) (offers_at (lists_of synod.offers) number) step ballot set (won synod.wins set) y y_is in
+    let (low, high, step_is) = after_work_is (instance_at synod.instances number) (offers_at (lists_of synod.offers) number) step ballot set (won synod.wins set) y y_is in
     let meet = meeting (won synod.wins) (won synod.wins) synod.never_apart in
     one_decided (decisions_of synod.instances) _ number y.decision (omega (arith, sixteen_decisions synod))
     (map-set (λ (x : Instance). x.decision) synod.instances number y)
     (λ value stands.
     ∥∥₁_elim (synod.all_kept number inside) (Prim.hlevel props) (λ kept.
-    work_keeps_decision kept meet synod.everyone_wins synod.everyone_wins ballot set (won synod.wins set) (λ wins. wins) (λ wins. wins) first last y
-    step step_is value (sym (decision_is synod.instances number) ∙ stands)))
+    work_keeps_decision kept meet synod.everyone_wins synod.everyone_wins ballot set (won synod.wins set) step (λ _ wins. wins) (λ _ wins. wins) low high y
+    step_is value (sym (decision_is synod.instances number) ∙ stands)))
 
 -- work under a number that there is is refused with 3 at most
 within : (outcome : Option Instance) → (taken (ok_or outcome NotAllowed) ≡ Ok tt) ⊎ (taken (ok_or outcome NotAllowed) ≡ Err NotAllowed)
 within None = inr refl
 within (Some y) = inl refl
 
-pub choose_below : {A : Type 0} (number : ℕ) (a b : A) → number < numbers → (if nat_lt number numbers then a else b) ≡ a
-choose_below number a b inside = grind (arith, nat_tests)
+pub if_below : {A : Type 0} (number : ℕ) (a b : A) → number < numbers → (if nat_lt number numbers then a else b) ≡ a
+if_below number a b inside = grind (arith, nat_tests)
 
-choose_above : {A : Type 0} (number : ℕ) (a b : A) → numbers ≤ number → (if nat_lt number numbers then a else b) ≡ b
-choose_above number a b outside = grind (arith, nat_tests)
+if_above : {A : Type 0} (number : ℕ) (a b : A) → numbers ≤ number → (if nat_lt number numbers then a else b) ≡ b
+if_above number a b outside = grind (arith, nat_tests)
 
 pub working_keeps : (before after : Synod) (number step ballot set : ℕ) (answer : Answer) → Made before (Work number step ballot set) answer after
     → Worked (decisions_of before.instances) (lists_of before.offers) number answer (decisions_of after.instances) (lists_of after.offers)
@@ -98,8 +97,8 @@ working_keeps before after number step ballot set answer made =
     let outcome = worked_at (tables_of before) number step ballot set in
     let changed : after.instances ≡ instances_with outcome before.instances number = ap (λ (t : Tables). t.instances) made.left in
     record {
-      too_high = λ outside. made.answered ∙ ap taken (choose_above number _ _ outside);
-      within = λ inside. rw (made.answered ∙ ap taken (choose_below number _ _ inside)) (within _);
+      too_high = λ outside. made.answered ∙ ap taken (if_above number _ _ outside);
+      within = λ inside. rw (made.answered ∙ ap taken (if_below number _ _ inside)) (within _);
       offers_stay = ap (λ (t : Tables). t.lists) made.left;
       deciding = rw (made.answered, changed) (deciding_by before number step ballot set outcome refl);
     }

@@ -1,17 +1,18 @@
 //! The synod.
-ghost use Rattle.std.specs.Prelude.{◌≡◌, ◌^◌, true, length, map};
-ghost use Rattle.std.specs.List.{range_with_len};
+ghost use Rattle.std.specs.Prelude.{◌≡◌, ◌^◌, true, length};
 ghost use Rattle.chooser.specs.Limits.{numbers};
 ghost use Rattle.chooser.specs.Listed.{lists_of};
 ghost use Rattle.quorum.specs.Sets.{everyone as all_places};
-ghost use Rattle.ballots.specs.Board.{acceptors};
-ghost use Rattle.synod.specs.Invariant.{won, NeverApart, AllKept};
+ghost use Rattle.ballots.specs.Limits.{acceptors};
+ghost use Rattle.synod.specs.Lookup.{won, rule_answers};
+ghost use Rattle.synod.specs.Invariant.{NeverApart, AllKept};
 
 use ballots::{ACCEPTORS, Instance};
 use chooser::{Chooser, ChooserRefusal, NUMBERS, OfferTable};
 use quorum::QuorumRule;
 
-/// The value of a ballot is decided under its number once a winning set of the number's five acceptors has accepted that ballot last.
+/// A chooser by ballots: a ballot's value is decided when the ballot is counted for a winning set of the number's five acceptors, each of which accepted it last.
+/// Like every chooser it is not `Copy`: two copies of one could decide two values.
 #[derive(Debug, PartialEq, Eq, Drop)]
 pub struct Synod {
     wins: [bool; 1 << ACCEPTORS],
@@ -25,14 +26,15 @@ pub struct Synod {
 }
 
 impl Synod {
-    ghost use Rattle.std.specs.Prelude.{[], replicate};
+    ghost use Rattle.std.specs.Prelude.{replicate};
+    ghost use Rattle.chooser.specs.Meaning.{no_offers};
     ghost use Rattle.ballots.specs.Instance.{blank};
     ghost use Rattle.synod.specs.Synod.{ballot_value};
 
     /// A synod by this rule, which is asked about each set of five now and never again.
     pub fn new<Q: QuorumRule>(rule: &Q) -> Synod
-        ensures asked { result.wins ≡ map (Q.winning rule.now acceptors) (range_with_len 0 (2 ^ acceptors)) }
-        ensures nothing_offered { lists_of result.offers ≡ replicate numbers [] }
+        ensures asked { result.wins ≡ rule_answers (Q.winning rule.now acceptors) }
+        ensures nothing_offered { lists_of result.offers ≡ no_offers }
         ensures blank { result.instances ≡ replicate numbers blank }
     {
         Synod {
@@ -105,7 +107,7 @@ impl Chooser for Synod {
 
 // The rule's answers for the 32 sets of five.
 fn answers<Q: QuorumRule>(rule: &Q) -> [bool; 1 << ACCEPTORS]
-    ensures { result ≡ map (Q.winning rule.now acceptors) (range_with_len 0 (2 ^ acceptors)) }
+    ensures { result ≡ rule_answers (Q.winning rule.now acceptors) }
 {
     let mut wins = [false; 1 << ACCEPTORS];
     for set in 0..1 << ACCEPTORS {

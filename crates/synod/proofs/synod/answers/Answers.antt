@@ -1,8 +1,8 @@
 use Rattle.std.proofs.Common.{map, false, sym, ◌∙◌, arith, get_or-set_other, get_or-set_same, below_more}
-use Rattle.std.specs.List.{range_with_len}
 use Rattle.std.proofs.lemmas.List.{ext_get_or, length-set}
 use Rattle.std.proofs.lemmas.List.FromFn.{length-map-range_with_len, get_or-map-range_with_len}
-use Rattle.ballots.specs.Board.{acceptors}
+use Rattle.ballots.specs.Limits.{acceptors}
+use Rattle.synod.specs.Lookup.{rule_answers}
 use Rattle.synod.proofs.synod.answers.Goals as goal
 
 pub loop-set-preserved : goal.loop-set-preserved
@@ -22,5 +22,5 @@ pub returns : goal.returns
 returns g c =
     let (all, each) = c.loop-set.invariant in
     let winning = g.Q.QuorumRule.winning c.args.rule.now acceptors in
-    ext_get_or false c.loop-set.wins (map winning (range_with_len 0 32)) (all ∙ sym (length-map-range_with_len winning 0 32))
+    ext_get_or false c.loop-set.wins (rule_answers winning) (all ∙ sym (length-map-range_with_len winning 0 32))
     (λ k below. each k (omega arith) ∙ sym (get_or-map-range_with_len winning 0 32 k k false (omega arith) (omega arith)))

@@ -1,5 +1,5 @@
 use Rattle.std.proofs.Common.{◌≡◌, ℕ, ◌<◌, length, false, get_or}
-use Rattle.ballots.specs.Board.{acceptors}
+use Rattle.ballots.specs.Limits.{acceptors}
 use Rattle.synod.proofs.synod.answers.Given as goal
 
 -- of the 32 answers each so far is the rule's

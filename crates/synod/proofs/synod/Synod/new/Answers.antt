@@ -1,11 +1,11 @@
 use Rattle.std.proofs.Common.{◌≡◌, map, refl, subst, sym, ap, ◌∙◌, arith, length, replicate}
-use Rattle.std.specs.List.{range_with_len}
 use Rattle.std.proofs.lemmas.List.FromFn.{length-map-range_with_len}
 use Rattle.chooser.specs.Limits.{numbers}
 use Rattle.chooser.specs.Listed.{lists_of}
 use Rattle.quorum.specs.Sets.{everyone}
-use Rattle.ballots.specs.Board.{acceptors}
-use Rattle.synod.specs.Invariant.{won, AllKept}
+use Rattle.ballots.specs.Limits.{acceptors}
+use Rattle.synod.specs.Lookup.{rule_answers, won}
+use Rattle.synod.specs.Invariant.{AllKept}
 use Rattle.synod.proofs.Start.{start_never_apart, start_all_kept}
 use Rattle.synod.proofs.synod.Synod.new.Goals as goal
 
@@ -14,7 +14,7 @@ pub invariant_of-result : goal.invariant_of-result
 invariant_of-result g c =
     let rule = c.args.rule.now in
     let winning = g.Q.QuorumRule.winning rule acceptors in
-    let asked : c.answers.result ≡ map winning (range_with_len 0 32) = c.answers.ensures in
+    let asked : c.answers.result ≡ rule_answers winning = c.answers.ensures in
     record {
       all_sets = ap length asked ∙ length-map-range_with_len winning 0 32;
       never_apart = rw asked (start_never_apart winning (λ a b a_wins b_wins. g.met.Q.QuorumRule.winners_meet rule acceptors a b a_wins b_wins));

@@ -1,5 +1,6 @@
 use Rattle.std.proofs.Common.{refl, subst, sym}
-use Rattle.synod.specs.Invariant.{won, AllKept}
+use Rattle.synod.specs.Lookup.{won}
+use Rattle.synod.specs.Invariant.{AllKept}
 use Rattle.synod.proofs.Changes.{offer_keeps_all}
 use Rattle.synod.proofs.synod.SynodChooser.offer.Goals as goal
 

@@ -16,7 +16,7 @@ invariant_of-self-clause-all_kept c =
     let at = c.from.result in
     let offers : c.as_slice.result.now ≡ offers_at (lists_of synod.offers) at =
     c.as_slice.ensures ∙ c.under-offers.ensures ∙ ap (offers_at (lists_of synod.offers)) (sym c.from.ensures) in
-    work_keeps_all synod at c.args.set c.work.new.self (omega (arith, c.from.ensures)) (rw (offers, c.wins-wins.ensures) at c.work.ensures.stays_kept)
+    work_keeps_all synod at c.args.step c.args.set c.work.new.self (omega (arith, c.from.ensures)) (rw (offers, c.wins-wins.ensures) at c.work.ensures.stays_kept)
 
 -- the table's place is the number
 pub returns : goal.returns
