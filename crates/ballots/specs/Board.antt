@@ -1,5 +1,5 @@
 -- What holds of ballots at all times under one number. A reader need not believe it: it is what the proof that no two values are decided rests on.
-use Rattle.std.specs.Prelude.{◌≡◌, ℕ, ◌%◌, ◌<◌, ◌≤◌, ◌≢◌, ◌⊎◌, Bool, true, List, length, Option, Some, None, is_some}
+use Rattle.std.specs.Prelude.{◌≡◌, ℕ, ◌<◌, ◌≤◌, ◌≢◌, Bool, true, List, length, Option, Some, None, is_some}
 use Rattle.chooser.specs.Meaning.{one_of}
 use Rattle.quorum.specs.Sets.{member, Share}
 use Rattle.ballots.specs.Limits.{acceptors, owner}

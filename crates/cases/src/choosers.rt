@@ -1,6 +1,7 @@
-//! The examples of choosers, run by functions that take any chooser.
+//! The examples of choosers, run: the ledger's by `chooser::make_call`, the contested ballot by `synod::play`.
 ghost use Rattle.std.specs.Prelude.{◌≡◌, Some};
 ghost use Rattle.chooser.specs.Runs.{calls_of};
+ghost use Rattle.chooser.specs.declared.calls.Call.TheVariants.{Offer};
 ghost use Rattle.cases.specs.ChooserExamples.{ChooserExamples, contested};
 
 use chooser::{Call, Chooser, Turn, make_call};
@@ -13,20 +14,8 @@ pub fn first_offer_decided() -> Option<u8>
     ensures { result ≡ Some 4 }
 {
     let mut ledger = Ledger::new();
-    let _ = make_call(
-        &mut ledger,
-        Call::Offer {
-            number: 0,
-            value: 4,
-        },
-    );
-    let _ = make_call(
-        &mut ledger,
-        Call::Offer {
-            number: 0,
-            value: 9,
-        },
-    );
+    make_call(&mut ledger, offer(4)).ok()?;
+    make_call(&mut ledger, offer(9)).ok()?;
     ledger.decision(0)
 }
 
@@ -40,11 +29,17 @@ pub fn contested_ballot() -> Option<u8>
     synod.decision(0)
 }
 
-// Offers 4, 9 and 6 under number 0; ballot 1 is promised, fixed, and accepted by acceptor 2; ballot 2 is promised, fixed, accepted and counted by 2, 3 and 4.
-fn contested() -> [Turn; 16]
+// The offer of a value under number 0.
+fn offer(value: u8) -> Call
+    ensures { result ≡ Offer 0 value }
+{
+    Call::Offer { number: 0, value }
+}
+
+// The calls of the contested ballot, as on the page of ballots.
+fn contested() -> [Turn; 19]
     ensures { calls_of result ≡ contested }
 {
-    let offer = |value| Call::Offer { number: 0, value };
     let work = |step, ballot, set| Call::Work {
         number: 0,
         step,
@@ -63,10 +58,13 @@ fn contested() -> [Turn; 16]
         work(1, 2, 0b00100),
         work(1, 2, 0b01000),
         work(1, 2, 0b10000),
+        work(3, 1, 0b00010),
+        work(3, 1, 0b00100),
         work(2, 2, 0b11100),
         work(3, 2, 0b00100),
         work(3, 2, 0b01000),
         work(3, 2, 0b10000),
+        work(4, 1, 0b00111),
         work(4, 2, 0b11100),
     ]
     .map(|call| Turn { call, answer: None })

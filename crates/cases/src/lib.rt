@@ -1,4 +1,4 @@
-//! The worked examples of docs/contents.md and docs/quorum-rules.md, proved as one list, those of docs/frames.md as another, and run.
+//! The worked examples of docs/, proved as three lists (contents and quorum rules; frames; choosers and ballots), and run.
 #![tactic(auto)]
 
 ghost use Rattle.std.specs.Prelude.{◌≡◌, true};

@@ -1,9 +1,9 @@
 -- Runs of a chooser: calls made one after the other, each on what the one before left.
-use Rattle.std.specs.Prelude.{◌≡◌, ℕ, true, List, [], ◌∷◌, map, Option, Some}
+use Rattle.std.specs.Prelude.{◌≡◌, ℕ, List, [], ◌∷◌, map, Option, Some}
 use Rattle.chooser.specs.declared.calls.Call.{Call}
 use Rattle.chooser.specs.declared.calls.Call.TheVariants.{Offer, Work}
 use Rattle.chooser.specs.declared.calls.Turn.{Turn}
-use Rattle.chooser.specs.Meaning.{Answer, Decisions, OfferLists, decision_at, offers_at, one_of}
+use Rattle.chooser.specs.Meaning.{Answer, Decisions, decision_at}
 
 -- what a call does to a chooser whose offering and working are these relations
 abbrev pub Does : {S : Type 0} → (S → ℕ → ℕ → Answer → S → Type 0) → (S → ℕ → ℕ → ℕ → ℕ → Answer → S → Type 0) → S → Call → Answer → S → Type 0

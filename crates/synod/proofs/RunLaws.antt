@@ -84,15 +84,15 @@ taken_changes (Ok y) is = (y, refl)
 -- so a step that is taken is one of the four, and the number's instance is what it makes of it
 step_made : (before after : Synod) (number step ballot set : ℕ) → Made before (Work number step ballot set) (Ok tt) after
     → (number < numbers) × (1 ≤ ballot) × (ballot ≤ last_ballot)
-      × (work_step (instance_at before.instances number) (offers_at (lists_of before.offers) number) step ballot set (won before.wins set) ≡ Some (instance_at after.instances number))
+    × (work_step (instance_at before.instances number) (offers_at (lists_of before.offers) number) step ballot set (won before.wins set) ≡ Some (instance_at after.instances number))
 step_made before after number step ballot set made =
     let (y, is) = taken_changes (worked_at (tables_of before) number step ballot set) made.answered in
     let (inside, y_is) = worked_at_is (tables_of before) number step ballot set y is in
     let (low, high, step_is) = after_work_is (instance_at before.instances number) (offers_at (lists_of before.offers) number) step ballot set (won before.wins set) y y_is in
     let changed : after.instances ≡ slice_set before.instances number y =
-        ap (λ (t : Tables). t.instances) made.left ∙ ap (λ outcome. instances_with outcome before.instances number) is in
+    ap (λ (t : Tables). t.instances) made.left ∙ ap (λ outcome. instances_with outcome before.instances number) is in
     let here : instance_at after.instances number ≡ y =
-        ap (λ xs. instance_at xs number) changed ∙ get_or-set_same before.instances number y no_instance (omega (arith, before.sixteen)) in
+    ap (λ xs. instance_at xs number) changed ∙ get_or-set_same before.instances number y no_instance (omega (arith, before.sixteen)) in
     (inside, low, high, step_is ∙ ap Some (sym here))
 
 -- a value that is there can be read off, and one that two options have in common
@@ -111,7 +111,7 @@ fix_gives_value before after number ballot set made =
     let (inside, low, high, step_is) = step_made before after number 2 ballot set made in
     let meet = meeting (won before.wins) (won before.wins) before.never_apart in
     some_value (ballot_value after number ballot) (∥∥₁_map (before.all_kept number inside) (λ kept.
-        fixed_has_value kept meet before.everyone_wins before.everyone_wins ballot set (won before.wins set) 2 (λ _ wins. wins) (λ _ wins. wins) low high _ refl step_is))
+    fixed_has_value kept meet before.everyone_wins before.everyone_wins ballot set (won before.wins set) 2 (λ _ wins. wins) (λ _ wins. wins) low high _ refl step_is))
 
 -- a count that is taken decides the ballot's value
 count_decides : (before after : Synod) (number ballot set : ℕ) → Made before (Work number 4 ballot set) (Ok tt) after → Decided after number ballot
@@ -119,7 +119,7 @@ count_decides before after number ballot set made =
     let (inside, low, high, step_is) = step_made before after number 4 ballot set made in
     let meet = meeting (won before.wins) (won before.wins) before.never_apart in
     let (value, fixed, decided) = common_value (ballot_value after number ballot) (instance_at after.instances number).decision (∥∥₁_map (before.all_kept number inside) (λ kept.
-            counted_is_decided kept meet before.everyone_wins before.everyone_wins ballot set (won before.wins set) 4 (λ _ wins. wins) (λ _ wins. wins) low high _ refl step_is)) in
+    counted_is_decided kept meet before.everyone_wins before.everyone_wins ballot set (won before.wins set) 4 (λ _ wins. wins) (λ _ wins. wins) low high _ refl step_is)) in
     (value, fixed, decision_is after.instances number ∙ decided)
 
 -- a step that was taken somewhere in a run was made on some synod, and the run goes on behind it

@@ -1,5 +1,5 @@
 -- What a synod keeps at all times. A reader need not believe it: it is what the proof that no two values are ever decided rests on.
-use Rattle.std.specs.Prelude.{◌≡◌, ℕ, ◌<◌, Bool, true, false, List, [], None, get_or}
+use Rattle.std.specs.Prelude.{◌≡◌, ℕ, ◌<◌, Bool, true, List}
 use Rattle.chooser.specs.Limits.{numbers}
 use Rattle.chooser.specs.Meaning.{OfferLists, offers_at}
 use Rattle.quorum.specs.Sets.{Share}

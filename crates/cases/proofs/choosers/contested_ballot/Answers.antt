@@ -10,21 +10,23 @@ use Rattle.cases.proofs.choosers.contested_ballot.Goals as goal
 examples : ChooserExamples
 unfolding dec_le dec_lt ones ones_in
 examples = record {
+  both_stand = refl;
   first_is_decided = refl;
   ninth_is_refused = refl;
-  all_taken = refl;
+  first_of_nine_is_decided = refl;
+  contested_answers = refl;
   first_has_its_offer = refl;
   second_takes_over = refl;
-  nine_is_decided = refl;
   undecided_before = refl;
-  late_count_is_refused = refl;
-  late_accept_is_taken = refl;
-  passed_over_is_refused = refl;
+  nine_is_decided = refl;
   one_at_a_time = refl;
   two_fix_nothing = refl;
   promised_is_refused = refl;
   no_fourth_offer = refl;
   ninth_ballot_is_the_seconds = refl;
+  not_fixed_again = refl;
+  counted_again = refl;
+  decided_as_before = refl;
   no_ballot_0 = refl;
   no_ballot_16 = refl;
   no_sixth_acceptor = refl;
