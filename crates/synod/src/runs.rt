@@ -8,7 +8,7 @@ ghost use Rattle.synod.specs.Ballots.{OneValue, ValuesStay};
 use crate::Synod;
 use chooser::Turn;
 
-/// Makes the calls of the turns, one after the other, and writes down what each was answered.
+/// Makes the calls of the turns, as `chooser::play` does, and promises what holds of synods alone.
 pub fn play(synod: &mut Synod, turns: &mut [Turn])
     ensures played { tables_of synod.new ≡ after_calls (tables_of synod.old) (calls_of turns.old) }
     ensures answered { answers_of turns.new ≡ answers_to (tables_of synod.old) (calls_of turns.old) }
