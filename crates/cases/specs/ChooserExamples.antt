@@ -23,12 +23,19 @@ lists_after (value ∷ values) lists = lists_after values (lists_with (offer_ans
 abbrev pub by_majority : Tables
 by_majority = record { wins = rule_answers (more_than_half acceptors); lists = no_offers; instances = replicate numbers blank }
 
--- Offers 4, 9 and 6 under number 0. Acceptors 0, 1 and 2 promise ballot 1 and fix it, acceptor 2 accepts it. Then 2, 3 and 4 promise ballot 2.
+-- Offers 4, 9 and 6 under number 0.
+abbrev pub three_offers : List Call
+three_offers = Offer 0 4 ∷ Offer 0 9 ∷ Offer 0 6 ∷ []
+
+-- Acceptors 0, 1 and 2 promise a ballot and fix it.
+abbrev pub by_three : ℕ → List Call
+by_three ballot = Work 0 1 ballot 0b00001 ∷ Work 0 1 ballot 0b00010 ∷ Work 0 1 ballot 0b00100 ∷ Work 0 2 ballot 0b00111 ∷ []
+
+-- After the offers, they do so with ballot 1, and acceptor 2 accepts it. Then 2, 3 and 4 promise ballot 2.
 abbrev pub two_ballots : List Call
 two_ballots =
-    Offer 0 4 ∷ Offer 0 9 ∷ Offer 0 6
-    ∷ Work 0 1 1 0b00001 ∷ Work 0 1 1 0b00010 ∷ Work 0 1 1 0b00100 ∷ Work 0 2 1 0b00111 ∷ Work 0 3 1 0b00100
-    ∷ Work 0 1 2 0b00100 ∷ Work 0 1 2 0b01000 ∷ Work 0 1 2 0b10000 ∷ []
+    three_offers ++ by_three 1
+    ++ (Work 0 3 1 0b00100 ∷ Work 0 1 2 0b00100 ∷ Work 0 1 2 0b01000 ∷ Work 0 1 2 0b10000 ∷ [])
 
 -- Acceptor 1 accepts ballot 1 late, and 2 tries to. Acceptors 2, 3 and 4 fix ballot 2,
 abbrev pub second_fixed : List Call
@@ -79,7 +86,11 @@ pub record ChooserExamples : Type 0 where
   -- A promise is above the last one, and only for a ballot whose offer exists: ballot 3 belongs to a fourth offer, ballot 9 to the second.
   pub promised_is_refused : next_answer two_ballots (Work 0 1 2 0b00100) ≡ refused ∷ []
   pub no_fourth_offer : next_answer two_ballots (Work 0 1 3 0b00100) ≡ refused ∷ []
-  pub ninth_ballot_is_the_seconds : next_answer two_ballots (Work 0 1 9 0b00100) ≡ taken ∷ []
+  pub ninth_ballot_is_the_seconds : ballot_after (three_offers ++ by_three 9) 9 ≡ Some 9
+  pub eighth_ballot_is_the_firsts : ballot_after (three_offers ++ by_three 8) 8 ≡ Some 4
+  -- All of a set have to have promised the ballot. Who accepts a ballot above its promise has promised it.
+  pub one_has_not_promised : next_answer two_ballots (Work 0 2 2 0b11110) ≡ refused ∷ []
+  pub accepts_above_its_promise : answers_to (after_calls by_majority second_fixed) (Work 0 3 2 0b00001 ∷ Work 0 3 1 0b00001 ∷ []) ≡ taken ∷ refused ∷ []
   -- A fixed ballot is not fixed again; a count under a decided number changes nothing.
   pub not_fixed_again : next_answer second_fixed (Work 0 2 2 0b11100) ≡ refused ∷ []
   pub counted_again : next_answer contested (Work 0 4 2 0b11100) ≡ taken ∷ []
