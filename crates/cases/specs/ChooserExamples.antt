@@ -3,15 +3,14 @@ use Rattle.std.specs.Prelude.{◌≡◌, ℕ, List, [], ◌∷◌, ◌++◌, map
 use Rattle.chooser.specs.declared.calls.Call.{Call}
 use Rattle.chooser.specs.declared.calls.Call.TheVariants.{Offer, Work}
 use Rattle.chooser.specs.declared.refusal.ChooserRefusal.TheVariants.{TooHigh, Full, NotAllowed}
-use Rattle.chooser.specs.Limits.{numbers}
 use Rattle.chooser.specs.Meaning.{OfferLists, Answer, no_offers, offers_at, decision_at, offer_answer, lists_with}
 use Rattle.chooser.specs.Refusals.{refusal_number}
 use Rattle.ledger.specs.Ledger.{firsts}
 use Rattle.quorum.specs.Rules.{more_than_half}
 use Rattle.ballots.specs.Limits.{acceptors}
-use Rattle.ballots.specs.Instance.{blank, value_at}
-use Rattle.synod.specs.Lookup.{rule_answers, instance_at}
-use Rattle.synod.specs.Synod.{Tables, decisions_of}
+use Rattle.ballots.specs.Instance.{value_at}
+use Rattle.synod.specs.Lookup.{instance_at}
+use Rattle.synod.specs.Synod.{Tables, start, decisions_of}
 use Rattle.synod.specs.Played.{answers_to, after_calls}
 
 -- offers under number 0, one after the other
@@ -21,7 +20,7 @@ lists_after (value ∷ values) lists = lists_after values (lists_with (offer_ans
 
 -- a synod by the majority of its acceptors, at its making
 abbrev pub by_majority : Tables
-by_majority = record { wins = rule_answers (more_than_half acceptors); lists = no_offers; instances = replicate numbers blank }
+by_majority = start (more_than_half acceptors)
 
 -- Offers 4, 9 and 6 under number 0.
 abbrev pub three_offers : List Call

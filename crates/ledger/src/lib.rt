@@ -10,7 +10,7 @@ ghost use Rattle.ledger.specs.LedgerLaws.{sixteen_firsts, first_is_offered, offe
 use chooser::{Chooser, ChooserRefusal, NUMBERS, OfferTable};
 
 /// The first offer under a number is decided at once. No step of work is allowed.
-/// A chooser is not `Copy`: two copies of one could decide two values.
+/// It is not `Copy`: two copies of one ledger could decide two values.
 #[derive(Debug, PartialEq, Eq, Drop)]
 pub struct Ledger {
     offers: OfferTable,

@@ -1,16 +1,16 @@
 -- What a synod does, exactly, over what it keeps.
-use Rattle.std.specs.Prelude.{◌≡◌, ℕ, Bool, nat_lt, if◌then◌else◌, List, map, slice_set, Option, Result, Ok, Err, ok_or}
+use Rattle.std.specs.Prelude.{◌≡◌, ℕ, Bool, nat_lt, if◌then◌else◌, List, map, slice_set, Option, Result, Ok, Err, ok_or, replicate}
 use Rattle.chooser.specs.declared.calls.Call.{Call}
 use Rattle.chooser.specs.declared.calls.Call.TheVariants.{Offer, Work}
 use Rattle.chooser.specs.declared.refusal.ChooserRefusal.{ChooserRefusal}
 use Rattle.chooser.specs.declared.refusal.ChooserRefusal.TheVariants.{TooHigh, NotAllowed}
 use Rattle.chooser.specs.Limits.{numbers}
 use Rattle.chooser.specs.Listed.{lists_of}
-use Rattle.chooser.specs.Meaning.{OfferLists, Decisions, Answer, offers_at, offer_answer, lists_with}
+use Rattle.chooser.specs.Meaning.{OfferLists, Decisions, Answer, no_offers, offers_at, offer_answer, lists_with}
 use Rattle.ballots.specs.declared.instance.Instance.{Instance}
-use Rattle.ballots.specs.Instance.{value_at, after_work}
+use Rattle.ballots.specs.Instance.{blank, value_at, after_work}
 use Rattle.synod.specs.declared.synod.Synod.{Synod}
-use Rattle.synod.specs.Lookup.{won, instance_at}
+use Rattle.synod.specs.Lookup.{rule_answers, won, instance_at}
 
 -- All that a synod keeps: the rule's answers for the 32 sets, the offers, and an instance for each number.
 pub record Tables : Type 0 where
@@ -20,6 +20,10 @@ pub record Tables : Type 0 where
 
 abbrev pub tables_of : Synod → Tables
 tables_of synod = record { wins = synod.wins; lists = lists_of synod.offers; instances = synod.instances }
+
+-- A synod at its making by a rule: nothing is offered, nobody has promised anything.
+abbrev pub start : (ℕ → Bool) → Tables
+start winning = record { wins = rule_answers winning; lists = no_offers; instances = replicate numbers blank }
 
 -- the decisions of instances
 abbrev pub decisions_of : List Instance → Decisions

@@ -12,7 +12,7 @@ use chooser::{Chooser, ChooserRefusal, NUMBERS, OfferTable};
 use quorum::QuorumRule;
 
 /// A chooser by ballots: a ballot's value is decided when the ballot is counted for a winning set of the number's five acceptors, each of which accepted it last.
-/// Like every chooser it is not `Copy`: two copies of one could decide two values.
+/// It is not `Copy`: two copies of one synod could decide two values.
 #[derive(Debug, PartialEq, Eq, Drop)]
 pub struct Synod {
     wins: [bool; 1 << ACCEPTORS],
@@ -26,16 +26,11 @@ pub struct Synod {
 }
 
 impl Synod {
-    ghost use Rattle.std.specs.Prelude.{replicate};
-    ghost use Rattle.chooser.specs.Meaning.{no_offers};
-    ghost use Rattle.ballots.specs.Instance.{blank};
-    ghost use Rattle.synod.specs.Synod.{ballot_value};
+    ghost use Rattle.synod.specs.Synod.{tables_of, start, ballot_value};
 
     /// A synod by this rule, which is asked about each set of five now and never again.
     pub fn new<Q: QuorumRule>(rule: &Q) -> Synod
-        ensures asked { result.wins ≡ rule_answers (Q.winning rule.now acceptors) }
-        ensures nothing_offered { lists_of result.offers ≡ no_offers }
-        ensures blank { result.instances ≡ replicate numbers blank }
+        ensures { tables_of result ≡ start (Q.winning rule.now acceptors) }
     {
         Synod {
             wins: answers(rule),

@@ -44,7 +44,5 @@ returns-clause-listed c = examples
 -- the synod starts by the majority, so playing leaves what the example computes
 pub returns-clause-decided : goal.returns-clause-decided
 returns-clause-decided c =
-    let made = c.new-synod.ensures in
-    let start : tables_of c.new-synod.result ≡ by_majority = rw (made.asked, made.nothing_offered, made.blank) refl in
-    let played : tables_of c.play.new.synod ≡ after_calls by_majority contested = c.play.ensures.played ∙ rw (start, c.contested.ensures) refl in
+    let played : tables_of c.play.new.synod ≡ after_calls by_majority contested = c.play.ensures.played ∙ rw (c.new-synod.ensures, c.contested.ensures) refl in
     c.decision.ensures ∙ ap (λ (t : Tables). decision_at (decisions_of t.instances) 0) played ∙ examples.nine_is_decided
