@@ -4,7 +4,7 @@ use Rattle.chooser.specs.declared.calls.Call.TheVariants.{Work}
 use Rattle.chooser.specs.declared.calls.Turn.{Turn}
 use Rattle.chooser.specs.Meaning.{decision_at}
 use Rattle.synod.specs.declared.synod.Synod.{Synod}
-use Rattle.synod.specs.Synod.{decisions_of, ballot_value}
+use Rattle.synod.specs.Synod.{decided_in, ballot_value}
 
 -- in some turn this step on the ballot of the number was taken
 abbrev pub StepTaken : ℕ → List Turn → ℕ → ℕ → Type 0
@@ -22,7 +22,7 @@ Counted turns number ballot = StepTaken 4 turns number ballot
 -- the ballot has a value, and it is what is decided under the number
 abbrev pub Decided : Synod → ℕ → ℕ → Type 0
 Decided synod number ballot =
-    (value : ℕ) × (ballot_value synod number ballot ≡ Some value) × (decision_at (decisions_of synod.instances) number ≡ Some value)
+    (value : ℕ) × (ballot_value synod number ballot ≡ Some value) × (decision_at (decided_in synod) number ≡ Some value)
 
 -- In a run that ends with this synod, two ballots of one number that were ever counted have one value, and it is what is decided. A ballot that was fixed has a value.
 pub record OneValue (turns : List Turn) (after : Synod) : Type 0 where

@@ -29,6 +29,13 @@ start winning = record { wins = rule_answers winning; lists = no_offers; instanc
 abbrev pub decisions_of : List Instance → Decisions
 decisions_of instances = map (λ (x : Instance). x.decision) instances
 
+-- what is decided in a synod, and what was offered
+abbrev pub decided_in : Synod → Decisions
+decided_in synod = decisions_of synod.instances
+
+abbrev pub offered_in : Synod → OfferLists
+offered_in synod = lists_of synod.offers
+
 -- the value of a ballot of a number, if it is fixed
 abbrev pub ballot_value : Synod → ℕ → ℕ → Option ℕ
 ballot_value synod number ballot = value_at (instance_at synod.instances number) ballot

@@ -1,7 +1,7 @@
 //! Runs of a synod, and what holds of every one of them.
 ghost use Rattle.std.specs.Prelude.{◌≡◌};
 ghost use Rattle.chooser.specs.Runs.{calls_of, answers_of, DecisionsStay};
-ghost use Rattle.synod.specs.Synod.{tables_of, decisions_of};
+ghost use Rattle.synod.specs.Synod.{tables_of, decided_in};
 ghost use Rattle.synod.specs.Played.{answers_to, after_calls};
 ghost use Rattle.synod.specs.Ballots.{OneValue, ValuesStay};
 
@@ -15,7 +15,7 @@ pub fn play(synod: &mut Synod, turns: &mut [Turn])
     ensures same_calls { calls_of turns.new ≡ calls_of turns.old }
     ensures one_value { OneValue turns.new synod.new }
     ensures values_stay { ValuesStay synod.old synod.new }
-    ensures decisions_stay { DecisionsStay (decisions_of synod.old.instances) (decisions_of synod.new.instances) }
+    ensures decisions_stay { DecisionsStay (decided_in synod.old) (decided_in synod.new) }
 {
     chooser::play(synod, turns);
 }

@@ -57,12 +57,12 @@ impl Synod {
 impl Chooser for Synod {
     ghost use Rattle.chooser.specs.declared.calls.Call.TheVariants.{Offer, Work};
     ghost use Rattle.chooser.specs.TableLaws.{sixteen_lists as lists_stand, eight_at_most as eight_stand, offers_are_bytes as bytes_stand};
-    ghost use Rattle.synod.specs.Synod.{decisions_of, Made};
+    ghost use Rattle.synod.specs.Synod.{decided_in, offered_in, Made};
     ghost use Rattle.synod.specs.SynodLaws.{sixteen_decisions as decisions_stand, decided_is_offered as decided_among, offering_keeps, working_keeps};
 
-    ghost decided = { λ synod. decisions_of synod.instances };
+    ghost decided = { decided_in };
 
-    ghost offers = { λ synod. lists_of synod.offers };
+    ghost offers = { offered_in };
 
     ghost offering = { λ before number value answer after. Made before (Offer number value) answer after };
 
