@@ -5,7 +5,7 @@ use Rattle.std.proofs.Math.ListN.{get_or-map}
 use Rattle.std.proofs.lemmas.List.{length-map, map-set}
 use Rattle.std.proofs.lemmas.Bool.Decides.{nat_tests}
 use Rattle.chooser.specs.Limits.{numbers}
-use Rattle.chooser.specs.Meaning.{OfferLists, Answer, offers_at, decision_at, one_of, offer_answer, lists_with}
+use Rattle.chooser.specs.Meaning.{OfferLists, Answer, offers_at, decision_at, one_of, DecidedIsOffered, offer_answer, lists_with}
 use Rattle.chooser.specs.Laws.{Deciding, Offered, Worked}
 use Rattle.chooser.specs.TableLaws.{sixteen_lists}
 use Rattle.chooser.specs.Deciding.{nothing_decided, one_decided}
@@ -15,18 +15,15 @@ use Rattle.ledger.specs.Ledger.{ledger_lists, first_of, firsts, LedgerOffered, L
 pub sixteen_firsts : (ledger : Ledger) → length (firsts (ledger_lists ledger)) ≡ numbers
 sixteen_firsts ledger = length-map (ledger_lists ledger) first_of ∙ sixteen_lists ledger.offers
 
--- the decision under a number is the first of its offers
-first_at : (lists : OfferLists) (number : ℕ) → decision_at (firsts lists) number ≡ first_of (offers_at lists number)
-first_at lists number = get_or-map first_of lists number []
-
+-- the first of a number's offers is the decision under it
 decided_at : (lists : OfferLists) (number : ℕ) → first_of (offers_at lists number) ≡ decision_at (firsts lists) number
-decided_at lists number = sym (first_at lists number)
+decided_at lists number = sym (get_or-map first_of lists number [])
 
 first_among : (offers : List ℕ) (value : ℕ) → first_of offers ≡ Some value → one_of offers value ≡ true
 first_among [] value is = absurd cc
 first_among (first ∷ later) value is = let same : first ≡ value = cc in grind (arith, nat_tests)
 
-pub first_is_offered : (lists : OfferLists) (number value : ℕ) → decision_at (firsts lists) number ≡ Some value → one_of (offers_at lists number) value ≡ true
+pub first_is_offered : (lists : OfferLists) → DecidedIsOffered (firsts lists) lists
 first_is_offered lists number value is = first_among _ value (decided_at lists number ∙ is)
 
 -- a later offer is not the first

@@ -15,6 +15,7 @@ none_more size a b apart not_both (place, below, in_a, in_b) =
     (λ other. apart (place, omega arith, in_a, in_b))
     (cases_eq place size)
 
+-- one place more: it is in both sets, or it is not
 next_place : (size a b : ℕ) (both : Bool) → (member size a && member size b) ≡ both → (Share size a b → ⊥) → Share (suc size) a b ⊎ (Share (suc size) a b → ⊥)
 next_place size a b true is apart = let (in_a, in_b) = and_parts (member size a) (member size b) is in inl (size, omega arith, in_a, in_b)
 next_place size a b false is apart = inr (none_more size a b apart is)
@@ -28,5 +29,6 @@ share_or_not (suc size) a b =
     (next_place size a b (member size a && member size b) refl)
     (share_or_not size a b)
 
+-- so where sets are never apart, the place that they share can be named
 pub meeting : (fixing counting : ℕ → Bool) → NeverApart fixing counting → Meet fixing counting
 meeting fixing counting never_apart f c fixes counts = ⊎_elim (λ share. share) (λ apart. absurd (never_apart f c fixes counts apart)) (share_or_not acceptors f c)

@@ -40,7 +40,7 @@ offered_in synod = lists_of synod.offers
 abbrev pub ballot_value : Synod → ℕ → ℕ → Option ℕ
 ballot_value synod number ballot = value_at (instance_at synod.instances number) ballot
 
--- What work makes of the instance of a number, for a set that wins by the rule's answer. Refused with 1 above the last number, with 3 if the step is not allowed.
+-- What work makes of the instance of a number, where the rule's answer says whether the set wins. Refused with 1 above the last number, with 3 if the step is not allowed.
 abbrev pub worked_at : Tables → ℕ → ℕ → ℕ → ℕ → Result Instance ChooserRefusal
 worked_at t number step ballot set =
     if nat_lt number numbers then ok_or (after_work (instance_at t.instances number) (offers_at t.lists number) step ballot set (won t.wins set)) NotAllowed

@@ -12,7 +12,7 @@ use Rattle.chooser.specs.declared.refusal.ChooserRefusal.{ChooserRefusal}
 use Rattle.chooser.specs.declared.refusal.ChooserRefusal.TheVariants.{TooHigh, NotAllowed}
 use Rattle.chooser.specs.Limits.{numbers}
 use Rattle.chooser.specs.Listed.{lists_of}
-use Rattle.chooser.specs.Meaning.{Answer, offers_at, decision_at, one_of, lists_with}
+use Rattle.chooser.specs.Meaning.{Answer, offers_at, decision_at, DecidedIsOffered, lists_with}
 use Rattle.chooser.specs.Laws.{Deciding, Offered, Worked}
 use Rattle.chooser.specs.Deciding.{nothing_decided, one_decided}
 use Rattle.ballots.specs.declared.instance.Instance.{Instance}
@@ -30,8 +30,7 @@ sixteen_decisions synod = length-map synod.instances (λ (x : Instance). x.decis
 pub decision_is : (instances : List Instance) (number : ℕ) → decision_at (decisions_of instances) number ≡ (instance_at instances number).decision
 decision_is instances number = get_or-map (λ (x : Instance). x.decision) instances number no_instance
 
-pub decided_is_offered : (synod : Synod) (number value : ℕ) → decision_at (decisions_of synod.instances) number ≡ Some value
-    → one_of (offers_at (lists_of synod.offers) number) value ≡ true
+pub decided_is_offered : (synod : Synod) → DecidedIsOffered (decisions_of synod.instances) (lists_of synod.offers)
 decided_is_offered synod number value is =
     ⊎_elim
     (λ below.
