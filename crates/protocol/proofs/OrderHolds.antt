@@ -1,0 +1,157 @@
+-- The order law, from what is known at two points of a run.
+use Rattle.std.proofs.Common.{◌≡◌, ℕ, ◌<◌, ◌≤◌, if◌then◌else◌, ◌⊎◌, sym, refl, ap, ◌∙◌, subst, inl, inr, arith}
+use Rattle.std.proofs.lemmas.Bool.{cases_lt}
+use Rattle.protocol.specs.State.{Kind, Read, Write, Regroup, System, Setting, first_of, opening_tag}
+use Rattle.protocol.specs.Moves.{now}
+use Rattle.protocol.specs.Law.{tag_in, IsAnswered, IsWrite, IsAnsweredRead, TookEffect, AnsweredBefore, OrderHolds, TagsCompare}
+use Rattle.protocol.specs.Line.{Linearizable}
+use Rattle.protocol.proofs.History.{Fact, WasAnswered, WasDecided, History, Genuine}
+use Rattle.protocol.proofs.Standing.{history_of, ReadStands, WriteStands, StandsAs, Sound}
+use Rattle.protocol.proofs.FactOrder.{TookEffectWith, FactOrder, fact_order}
+use Rattle.protocol.proofs.SoundRuns.{sound_when_reached, sound_later}
+use Rattle.protocol.proofs.AnswersStay.{answers_stay}
+use Rattle.protocol.proofs.Moments.{starts_rise, starts_first, moments_tell, reached_later}
+use Rattle.protocol.proofs.LineHolds.{line_holds}
+
+-- What a sound system's rows say of answers and writes, as facts.
+module _ {setting : Setting} {Earlier : Fact → Type 0} {system : System} (sound : Sound setting Earlier system) where
+  abbrev h : History
+  h = history_of system sound.joined sound.known
+
+  order : FactOrder setting h
+  order = fact_order setting h sound.invariant
+
+  was_answered : (operation : ℕ) → IsAnswered system operation → sound.known (WasAnswered (sound.request operation) (system.operations.row operation).copy (system.operations.row operation).answer)
+  was_answered operation is_answered = go (system.operations.row operation).kind refl (sound.rows operation is_answered.is_started).by_kind
+    where
+      go : (kind : Kind) → (system.operations.row operation).kind ≡ kind → StandsAs h (system.operations.row operation) (sound.request operation) kind
+          → sound.known (WasAnswered (sound.request operation) (system.operations.row operation).copy (system.operations.row operation).answer)
+      go Read kind stands = stands.answered is_answered.answered
+      go Write kind stands = stands.answered is_answered.answered
+      go Regroup kind stands = absurd (is_answered.not_a_regroup kind)
+
+  write_stands : (write : ℕ) → IsWrite system write → WriteStands h (system.operations.row write) (sound.request write)
+  write_stands write is_write = subst (λ k. StandsAs h (system.operations.row write) (sound.request write) k) is_write.write (sound.rows write is_write.is_started).by_kind
+
+  read_stands : (read : ℕ) → IsAnsweredRead system read → ReadStands h (system.operations.row read) (sound.request read)
+  read_stands read is_read = subst (λ k. StandsAs h (system.operations.row read) (sound.request read) k) is_read.read (sound.rows read is_read.answered.is_started).by_kind
+
+  -- (a) A genuine copy is the opening one or is found in the row of a write.
+  pub reads : (read : ℕ) → IsAnsweredRead system read
+      → ((system.operations.row read).copy ≡ (first_of setting).copy) ⊎ ((write : ℕ) × IsWrite system write × ((system.operations.row write).copy ≡ (system.operations.row read).copy))
+  reads read is_read = go (order.answers_are_genuine (sound.request read) (system.operations.row read).copy (system.operations.row read).answer (was_answered read is_read.answered))
+    where
+      go : Genuine setting h (system.operations.row read).copy
+          → ((system.operations.row read).copy ≡ (first_of setting).copy) ⊎ ((write : ℕ) × IsWrite system write × ((system.operations.row write).copy ≡ (system.operations.row read).copy))
+      go (inl opening) = inl opening
+      go (inr (request, written)) =
+          let found = sound.back request written.started in
+          let is_write : IsWrite system found.operation = record { is_started = found.is_started; write = found.kind ∙ ap (λ w. if w then Write else Read) written.writes } in
+          inr (found.operation, is_write, sym (write_stands found.operation is_write).copy ∙ ap (λ r. r.copy) found.here ∙ written.same)
+
+  pub tags_differ : (one other : ℕ) → IsWrite system one → IsWrite system other → tag_in system one ≡ tag_in system other → one ≡ other
+  tags_differ one other is_write other_is_write same =
+      let stands = write_stands one is_write in
+      let other_stands = write_stands other other_is_write in
+      let same_request = order.tags_differ (sound.request one) (sound.request other) stands.started other_stands.started stands.writes other_stands.writes (omega (arith, ap (λ c. c.tag) stands.copy, ap (λ c. c.tag) other_stands.copy, same)) in
+      sym (sound.rows one is_write.is_started).same_operation ∙ ap (λ r. r.operation) same_request ∙ (sound.rows other other_is_write.is_started).same_operation
+
+  pub tags_are_above : (write : ℕ) → IsWrite system write → opening_tag < tag_in system write
+  tags_are_above write is_write =
+      let stands = write_stands write is_write in
+      omega (arith, ap (λ c. c.tag) stands.copy, ((sound.invariant.requests (sound.request write) stands.started).write stands.writes).above_opening)
+
+  -- (b) What took effect is an answer or was returned, as a fact.
+  took_effect : (operation : ℕ) → TookEffect system operation → TookEffectWith h (sound.request operation) (system.operations.row operation).copy
+  took_effect operation (inl is_answered) = inl ((system.operations.row operation).answer, was_answered operation is_answered)
+  took_effect operation (inr returned) =
+      let stands = write_stands operation returned.write in
+      inr
+      (record {
+        written = record { started = stands.started; writes = stands.writes; same = stands.copy };
+        read = sound.request returned.read;
+        answer = (system.operations.row returned.read).copy;
+        moment = (system.operations.row returned.read).answer;
+        answered = was_answered returned.read returned.is_read.answered;
+        reads = (read_stands returned.read returned.is_read).reads;
+        same_tag = returned.same_tag;
+      })
+
+  is_started : (operation : ℕ) → TookEffect system operation → operation < system.operations.count
+  is_started operation (inl is_answered) = is_answered.is_started
+  is_started operation (inr returned) = returned.write.is_started
+
+  in_time : (first second : ℕ) → AnsweredBefore system first second → TookEffect system second → (system.operations.row first).answer < (sound.request second).start
+  in_time first second before effect = omega (arith, before.1, (sound.rows second (is_started second effect)).same_start)
+
+  pub never_higher : (first second : ℕ) → AnsweredBefore system first second → TookEffect system second → tag_in system first ≤ tag_in system second
+  never_higher first second before effect =
+      order.never_higher (sound.request first) (system.operations.row first).copy (system.operations.row first).answer (sound.request second) (system.operations.row second).copy
+      (was_answered first before.0) (took_effect second effect) (in_time first second before effect)
+
+  pub writes_are_higher : (first second : ℕ) → AnsweredBefore system first second → TookEffect system second → (system.operations.row second).kind ≡ Write
+      → tag_in system first < tag_in system second
+  writes_are_higher first second before effect write =
+      order.writes_are_higher (sound.request first) (system.operations.row first).copy (system.operations.row first).answer (sound.request second) (system.operations.row second).copy
+      (was_answered first before.0) (took_effect second effect) (in_time first second before effect)
+      (write_stands second (record { is_started = is_started second effect; write = write })).writes
+
+-- (c) A configuration that a node was in at the early point is still known to be decided at the late one, where one is decided for each number.
+module _ {setting : Setting} {early late : System} {Earlier : Fact → Type 0} (sound : Sound setting Earlier early) (sound' : Sound setting sound.known late) where
+  was_decided : (node : ℕ) → sound'.known (WasDecided (sound.joined node))
+  was_decided node = sound'.earlier (WasDecided (sound.joined node)) (sound.invariant.nodes node).decided
+
+  joined_same : (one other : ℕ) → (early.nodes one).number ≡ (late.nodes other).number → sound.joined one ≡ sound'.joined other
+  joined_same one other same =
+      (order sound').one_for_each_number (sound.joined one) (sound'.joined other) (was_decided one) ((order sound').node_is_decided other)
+      ((sound.invariant.nodes one).matches.number ∙ same ∙ sym (sound'.invariant.nodes other).matches.number)
+
+  pub same_members : (one other : ℕ) → (early.nodes one).number ≡ (late.nodes other).number → (early.nodes one).members ≡ (late.nodes other).members
+  same_members one other same =
+      sym (sound.invariant.nodes one).matches.members ∙ ap (λ c. c.members) (joined_same one other same) ∙ (sound'.invariant.nodes other).matches.members
+
+  pub same_opening : (one other : ℕ) → (early.nodes one).number ≡ (late.nodes other).number → (early.nodes one).opening ≡ (late.nodes other).opening
+  same_opening one other same =
+      sym (sound.invariant.nodes one).matches.opening ∙ ap (λ c. c.copy.tag) (joined_same one other same) ∙ (sound'.invariant.nodes other).matches.opening
+
+  pub carried_over : (operation node : ℕ) → IsAnswered late operation → (late.operations.row operation).number < (early.nodes node).number
+      → tag_in late operation ≤ (early.nodes node).opening
+  carried_over operation node is_answered lower =
+      let matches = (sound.invariant.nodes node).matches in
+      omega (
+        arith,
+        matches.opening,
+        (order sound').carried_over (sound'.request operation) (late.operations.row operation).copy (late.operations.row operation).answer (sound.joined node)
+            (was_answered sound' operation is_answered) (was_decided node)
+            (omega (arith, lower, matches.number, (sound'.rows operation is_answered.is_started).same_number)),
+      )
+
+pub order_holds : OrderHolds
+order_holds setting early late reached later =
+    let sound = sound_when_reached setting early reached in
+    let sound_now : Sound setting sound.known early =
+    record { joined = sound.joined; request = sound.request; known = sound.known; earlier = λ fact known. known; invariant = sound.invariant; rows = sound.rows; back = sound.back; frames = sound.frames; proposals = sound.proposals }
+    in
+    let sound' = sound_later setting sound.known early late sound_now later in
+    record {
+      reads = reads sound';
+      tags_differ = tags_differ sound';
+      tags_are_above = tags_are_above sound';
+      never_higher = never_higher sound';
+      writes_are_higher = writes_are_higher sound';
+      starts_first = starts_first setting late (reached_later setting early late reached later);
+      moments_tell = moments_tell setting early late reached later;
+      starts_rise = starts_rise setting late (reached_later setting early late reached later);
+      same_members = same_members sound sound';
+      same_opening = same_opening sound sound';
+      carried_over = carried_over sound sound';
+      answers_stay = answers_stay setting early late later;
+    }
+
+-- Linearizability is the order law at one point, read as a line.
+pub linearizable : Linearizable
+linearizable setting system reached = line_holds setting system (order_holds setting system system reached now)
+
+-- Nodes are below 32, so a higher version outweighs any node.
+pub tags_compare : TagsCompare
+tags_compare version node version' node' below below' = (λ lower. grind (arith, cases_lt version version', cases_lt version' version), λ lower. omega (arith, lower))

@@ -1,0 +1,12 @@
+//! The protocol by which copies of one sheet are kept, and the proof that they never disagree. There is no code to speak of: the contract is what this crate is for.
+#![tactic(auto)]
+
+ghost use Rattle.protocol.specs.Law.{OrderHolds, TagsCompare};
+ghost use Rattle.protocol.specs.Line.{Linearizable};
+
+/// Whatever the network delivers, repeats or loses: the answers and the writes of every run stand in one order that respects time, across changes of the group.
+pub fn order_holds()
+    ensures order { OrderHolds }
+    ensures line { Linearizable }
+    ensures tags { TagsCompare }
+{}
