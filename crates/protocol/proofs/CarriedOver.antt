@@ -52,7 +52,7 @@ module _ {setting : Setting} {h : History} (invariant : Invariant setting h) whe
       go zero to decided far = answer_is_carried_to_next request copy moment to answered decided (omega arith)
       go (suc distance) to decided far =
           let proposal = decided_above_0_is_sound invariant to decided (omega arith) in
-          omega (arith, proposal.opening_grows, go distance proposal.last proposal.decided (omega (arith, proposal.follows)))
+          omega (arith, proposal.opening_grows, go distance proposal.previous proposal.decided (omega (arith, proposal.follows)))
 
   -- What starts after an answer of a higher number is left out by a freezing set, so no answering set acknowledges it.
   pub late_start_is_never_answered : (first : Request) (copy : Copy) (moment : ℕ) (second : Request) (copy' : Copy) (moment' : ℕ) → Before h first copy moment second

@@ -8,8 +8,8 @@ use Rattle.protocol.proofs.Lasting.{quorum_map, genuine_lasts, old_or_new, old_o
 
 module _ {setting : Setting} {h h' : History} (invariant : Invariant setting h) (step : Step setting h h') where
   -- It was decided before, and facts grow.
-  pub opening_is_decided_kept : h'.known (WasDecided (first_of setting))
-  opening_is_decided_kept = step.grows (WasDecided (first_of setting)) invariant.opening_is_decided
+  pub first_is_decided_kept : h'.known (WasDecided (first_of setting))
+  first_is_decided_kept = step.grows (WasDecided (first_of setting)) invariant.first_is_decided
 
   -- A new decision is under a number that none was decided under.
   pub one_for_each_number_kept : (one other : Configuration) → h'.known (WasDecided one) → h'.known (WasDecided other) → one.number ≡ other.number → one ≡ other
@@ -40,30 +40,29 @@ module _ {setting : Setting} {h h' : History} (invariant : Invariant setting h) 
   sound_proposal_lasts : (next : Configuration) → SoundProposal setting h next → SoundProposal setting h' next
   sound_proposal_lasts next old =
       record {
-        last = old.last;
-        decided = step.grows (WasDecided old.last) old.decided;
+        previous = old.previous;
+        decided = step.grows (WasDecided old.previous) old.decided;
         follows = old.follows;
         opening_grows = old.opening_grows;
         genuine = genuine_lasts step.grows setting old.genuine;
         left = quorum_map left_below_lasts old.left;
       }
 
-  -- Who held out a copy can acknowledge nothing above it, so nothing above the highest that was held out.
+  -- Who held out a copy can acknowledge nothing above it, so nothing above the proposed one.
   new_proposal_is_sound : (next : Configuration) → NewProposal setting h next → SoundProposal setting h next
   new_proposal_is_sound next new =
-      let highest = invariant.held new.last new.node next.copy new.held_by in
       record {
-        last = new.last;
+        previous = new.previous;
         decided = new.decided;
         follows = new.follows;
-        opening_grows = highest.above_opening;
-        genuine = highest.genuine;
+        opening_grows = new.above_opening;
+        genuine = new.genuine;
         left = quorum_map left new.held;
       }
     where
-      left : (node : ℕ) → HeldBelow h new.last next.copy.tag node → LeftBelow h new.last.number next.copy.tag node
+      left : (node : ℕ) → HeldBelow h new.previous next.copy.tag node → LeftBelow h new.previous.number next.copy.tag node
       left node held =
-          let sound = invariant.held new.last node held.copy held.held in
+          let sound = invariant.held new.previous node held.copy held.held in
           record { past = sound.left.past; below = λ write acknowledged writes under. omega (arith, held.below, sound.left.below write acknowledged writes under) }
 
   -- So a proposal is sound before the step, be it old or new, and stays so.

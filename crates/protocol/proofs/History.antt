@@ -1,6 +1,6 @@
 -- The facts that a run establishes, one after the other. Facts only grow, so a clause about old facts never has to be proved again.
 use Rattle.std.proofs.Common.{◌≡◌, ℕ, suc, ◌+◌, ◌*◌, ◌<◌, ◌≤◌, Bool, true, false, ◌⊎◌, length}
-use Rattle.protocol.specs.State.{Tag, Copy, Places, Configuration, Node, Status, Idle, Active, Frozen, Setting, first_of, node_at, primary, version_of}
+use Rattle.protocol.specs.State.{tag_of, Tag, Copy, Places, Configuration, Node, Status, Idle, Active, Frozen, Setting, first_of, node_at, primary, version_of}
 
 -- what never changes of a read or a write; of a read, the copy says nothing
 pub record Request : Type 0 where
@@ -55,7 +55,7 @@ pub record AnsweredWrite (h : History) (number : ℕ) (tag : Tag) : Type 0 where
   pub under : write.configuration.number ≡ number
   pub same : copy.tag ≡ tag
 
--- some set of places of the configuration wins, and what is said holds of the node at each place of it
+-- some set of places of the configuration wins, and what is frame_says holds of the node at each place of it
 pub record Quorum (wins : ℕ → Places → Bool) (configuration : Configuration) (Each : ℕ → Type 0) : Type 0 where
   pub set : Places
   pub winning : wins (length configuration.members) set ≡ true
@@ -69,7 +69,7 @@ pub record NewStart (h h' : History) (request : Request) : Type 0 where
   pub under : request.configuration ≡ h.joined request.node
   pub is_primary : request.node ≡ primary (h.joined request.node).members
   pub below_32 : request.node < 32
-  pub tag : request.writes ≡ true → request.copy.tag ≡ 32 * suc (h.nodes request.node).newest + request.node
+  pub tag : request.writes ≡ true → request.copy.tag ≡ tag_of (suc (h.nodes request.node).newest) request.node
   pub newest : request.writes ≡ true → (h'.nodes request.node).newest ≡ suc (h.nodes request.node).newest
 
 -- the node is active under the request's number after the step, and has stored no lower tag than a write's
@@ -99,14 +99,14 @@ pub record HeldBelow (h : History) (configuration : Configuration) (tag : Tag) (
   pub held : h.known (WasHeld configuration node copy)
   pub below : copy.tag ≤ tag
 
--- a freezing set held out copies, and the proposed copy is the highest of them
+-- A freezing set held out copies, and the proposed copy is no lower than these. It is a genuine one, and no lower than the opening copy.
 pub record NewProposal (setting : Setting) (h : History) (next : Configuration) : Type 0 where
-  pub last : Configuration
-  pub decided : h.known (WasDecided last)
-  pub follows : next.number ≡ suc last.number
-  pub held : Quorum setting.freezes last (HeldBelow h last next.copy.tag)
-  pub node : ℕ
-  pub held_by : h.known (WasHeld last node next.copy)
+  pub previous : Configuration
+  pub decided : h.known (WasDecided previous)
+  pub follows : next.number ≡ suc previous.number
+  pub held : Quorum setting.freezes previous (HeldBelow h previous next.copy.tag)
+  pub genuine : Genuine setting h next.copy
+  pub above_opening : previous.copy.tag ≤ next.copy.tag
 
 pub record NewDecision (h : History) (configuration : Configuration) : Type 0 where
   pub proposed : h.known (WasProposed configuration)
@@ -130,19 +130,19 @@ pub record Matches (node : Node) (configuration : Configuration) : Type 0 where
   pub opening : configuration.copy.tag ≡ node.opening
   pub idle_at_0 : node.status ≡ Idle → node.number ≡ 0
 
--- the node serves a write of its own that was answered
-pub record Serves (h h' : History) (node : ℕ) : Type 0 where
+-- the copy is a write of the node's own, under the number of its configuration, that was answered
+pub record OwnAnswer (h h' : History) (node : ℕ) (copy : Copy) : Type 0 where
   pub write : Request
   pub moment : ℕ
-  pub copy : WrittenBy h write (h'.nodes node).served
-  pub answered : h'.known (WasAnswered write (h'.nodes node).served moment)
+  pub written : WrittenBy h write copy
+  pub answered : h'.known (WasAnswered write copy moment)
   pub at : write.node ≡ node
   pub under : write.configuration.number ≡ (h.joined node).number
 
 pub record Stays (h h' : History) (node : ℕ) : Type 0 where
   pub joined : h'.joined node ≡ h.joined node
   pub served_grows : (h.nodes node).served.tag ≤ (h'.nodes node).served.tag
-  pub served : ((h'.nodes node).served ≡ (h.nodes node).served) ⊎ Serves h h' node
+  pub served : ((h'.nodes node).served ≡ (h.nodes node).served) ⊎ OwnAnswer h h' node (h'.nodes node).served
 
 pub record Joins (h h' : History) (node : ℕ) (next : Configuration) : Type 0 where
   pub decided : h.known (WasDecided next)

@@ -10,12 +10,12 @@ pub record LeftBelow (h : History) (number : ℕ) (tag : Tag) (node : ℕ) : Typ
 
 -- A proposal follows a decided configuration, and a freezing set of that one can acknowledge nothing above the proposed tag.
 pub record SoundProposal (setting : Setting) (h : History) (next : Configuration) : Type 0 where
-  pub last : Configuration
-  pub decided : h.known (WasDecided last)
-  pub follows : next.number ≡ suc last.number
-  pub opening_grows : last.copy.tag ≤ next.copy.tag
+  pub previous : Configuration
+  pub decided : h.known (WasDecided previous)
+  pub follows : next.number ≡ suc previous.number
+  pub opening_grows : previous.copy.tag ≤ next.copy.tag
   pub genuine : Genuine setting h next.copy
-  pub left : Quorum setting.freezes last (LeftBelow h last.number next.copy.tag)
+  pub left : Quorum setting.freezes previous (LeftBelow h previous.number next.copy.tag)
 
 -- A copy that is held out is at least the opening one, and its node can acknowledge nothing above it.
 pub record SoundHeld (setting : Setting) (h : History) (configuration : Configuration) (node : ℕ) (copy : Copy) : Type 0 where
@@ -77,7 +77,7 @@ pub record LeftOut (h : History) (request : Request) (node : ℕ) : Type 0 where
   pub not_acknowledged : h.known (WasAcknowledged request node) → ⊥
 
 pub record Invariant (setting : Setting) (h : History) : Type 0 where
-  pub opening_is_decided : h.known (WasDecided (first_of setting))
+  pub first_is_decided : h.known (WasDecided (first_of setting))
   -- One configuration is decided for each number.
   pub one_for_each_number : (one other : Configuration) → h.known (WasDecided one) → h.known (WasDecided other) → one.number ≡ other.number → one ≡ other
   pub decided_was_proposed : (configuration : Configuration) → h.known (WasDecided configuration) → (configuration ≡ first_of setting) ⊎ h.known (WasProposed configuration)

@@ -3,7 +3,7 @@ use Rattle.std.proofs.Common.{◌≡◌, ℕ, inl, sym, ◌∙◌, ap, arith}
 use Rattle.protocol.specs.State.{Copy, Configuration, Setting, first_of}
 use Rattle.protocol.proofs.History.{Request, Fact, WasStarted, WasAcknowledged, WasAnswered, WasHeld, WasProposed, WasDecided, History, Matches, Step}
 use Rattle.protocol.proofs.Invariant.{SoundNode, Invariant}
-use Rattle.protocol.proofs.Configurations.{opening_is_decided_kept, one_for_each_number_kept, decided_was_proposed_kept, proposals_kept, held_kept}
+use Rattle.protocol.proofs.Configurations.{first_is_decided_kept, one_for_each_number_kept, decided_was_proposed_kept, proposals_kept, held_kept}
 use Rattle.protocol.proofs.NodesKept.{nodes_kept}
 use Rattle.protocol.proofs.RequestsKept.{acks_kept, requests_kept, tags_differ_kept}
 use Rattle.protocol.proofs.AnswersKept.{answers_kept}
@@ -12,7 +12,7 @@ use Rattle.protocol.proofs.LaterKept.{later_write_is_higher_kept, later_read_is_
 pub invariant_kept : (setting : Setting) (h h' : History) → Invariant setting h → Step setting h h' → Invariant setting h'
 invariant_kept setting h h' invariant step =
     record {
-      opening_is_decided = opening_is_decided_kept invariant step;
+      first_is_decided = first_is_decided_kept invariant step;
       one_for_each_number = one_for_each_number_kept invariant step;
       decided_was_proposed = decided_was_proposed_kept invariant step;
       proposals = proposals_kept invariant step;
@@ -72,7 +72,7 @@ module _ (setting : Setting) (h : History) (opening : Opening setting h) where
   pub invariant_at_opening : Invariant setting h
   invariant_at_opening =
       record {
-        opening_is_decided = opening.first_is_decided;
+        first_is_decided = opening.first_is_decided;
         one_for_each_number = λ one other decided other_decided same_number. is_first one decided ∙ sym (is_first other other_decided);
         decided_was_proposed = λ configuration decided. inl (is_first configuration decided);
         proposals = λ next proposed. cc (opening.nothing_else (WasProposed next) proposed);

@@ -32,16 +32,16 @@ module _ {h h' : History} (grows : (old : Fact) → h.known old → h'.known old
         same = old.same;
       }
 
-off_duty_is_0_or_1 : (status : Status) → off_duty status ≤ 1
-off_duty_is_0_or_1 Idle = omega arith
-off_duty_is_0_or_1 Active = omega arith
-off_duty_is_0_or_1 Frozen = omega arith
+pub off_duty_at_most_1 : (status : Status) → off_duty status ≤ 1
+off_duty_at_most_1 Idle = omega arith
+off_duty_at_most_1 Active = omega arith
+off_duty_at_most_1 Frozen = omega arith
 
 -- A node's position is that of the configuration that it is in, or the one after.
 pub position_is_near : {node : Node} {configuration : Configuration} → Matches node configuration
     → (2 * configuration.number ≤ position node) × (position node ≤ suc (2 * configuration.number))
 position_is_near {node = node} matches =
-    let off = off_duty_is_0_or_1 node.status in
+    let off = off_duty_at_most_1 node.status in
     (omega (arith, matches.number), omega (arith, matches.number))
 
 -- What a step may add
@@ -82,10 +82,10 @@ module _ {setting : Setting} {h h' : History} (step : Step setting h h') where
       go (inl stays) = stays
       go (inr (next, joins)) = absurd (omega (arith, ap (λ c. c.number) joins.joined, joins.higher))
 
--- what the proposal of the next configuration says of the last one
-pub record Follows (setting : Setting) (h : History) (last next : Configuration) : Type 0 where
-  pub opening_grows : last.copy.tag ≤ next.copy.tag
-  pub left : Quorum setting.freezes last (LeftBelow h last.number next.copy.tag)
+-- what the proposal of the next configuration says of the previous one
+pub record Follows (setting : Setting) (h : History) (previous next : Configuration) : Type 0 where
+  pub opening_grows : previous.copy.tag ≤ next.copy.tag
+  pub left : Quorum setting.freezes previous (LeftBelow h previous.number next.copy.tag)
 
 -- What follows from the invariant at one point
 module _ {setting : Setting} {h : History} (invariant : Invariant setting h) where
@@ -107,14 +107,14 @@ module _ {setting : Setting} {h : History} (invariant : Invariant setting h) whe
       go zero from decided far = (from, decided, omega arith)
       go (suc distance) from decided far =
           let proposal = decided_above_0_is_sound from decided (omega arith) in
-          go distance proposal.last proposal.decided (omega (arith, proposal.follows))
+          go distance proposal.previous proposal.decided (omega (arith, proposal.follows))
 
-  -- The configuration that the next one was proposed after is the last one, as there is one for each number.
-  pub next_follows : (last next : Configuration) → h.known (WasDecided last) → h.known (WasDecided next) → next.number ≡ suc last.number → Follows setting h last next
-  next_follows last next decided next_decided number =
+  -- The configuration that the next one was proposed after is the previous one, as there is one for each number.
+  pub next_follows : (previous next : Configuration) → h.known (WasDecided previous) → h.known (WasDecided next) → next.number ≡ suc previous.number → Follows setting h previous next
+  next_follows previous next decided next_decided number =
       let proposal = decided_above_0_is_sound next next_decided (omega arith) in
-      let same_last : proposal.last ≡ last = invariant.one_for_each_number proposal.last last proposal.decided decided (omega (arith, proposal.follows)) in
-      subst (λ c. Follows setting h c next) same_last (record { opening_grows = proposal.opening_grows; left = proposal.left })
+      let same_previous : proposal.previous ≡ previous = invariant.one_for_each_number proposal.previous previous proposal.decided decided (omega (arith, proposal.follows)) in
+      subst (λ c. Follows setting h c next) same_previous (record { opening_grows = proposal.opening_grows; left = proposal.left })
 
 -- The first configuration has the opening copy, and what is proposed has a genuine one.
 pub decided_is_genuine : (setting : Setting) (h : History) → Invariant setting h → (configuration : Configuration) → h.known (WasDecided configuration) → Genuine setting h configuration.copy

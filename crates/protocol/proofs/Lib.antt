@@ -22,8 +22,8 @@ pub mod RowMoves
 pub mod ProposalMoves
 pub mod SoundRuns
 -- What the moves say of rows and moments, without any facts
-pub mod RowsKept
-pub mod AnswersStay
+pub mod RowChanges
+pub mod RowsStay
 pub mod Moments
 -- The law
 pub mod LineHolds

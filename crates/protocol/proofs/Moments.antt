@@ -2,10 +2,10 @@
 use Rattle.std.proofs.Common.{◌≡◌, ℕ, ◌<◌, ◌≤◌, arith}
 use Rattle.std.proofs.lemmas.Bool.{cases_lt}
 use Rattle.protocol.specs.State.{System, Setting}
-use Rattle.protocol.specs.Moves.{Reached, opens, moves, Later, now, and_then}
+use Rattle.protocol.specs.Moves.{Reached, AtOpening, ByMove, Later, Now, AfterMove}
 use Rattle.protocol.specs.Law.{IsAnswered, AnsweredBefore}
-use Rattle.protocol.proofs.RowsKept.{RowsMove, rows_move}
-use Rattle.protocol.proofs.AnswersStay.{answers_stay}
+use Rattle.protocol.proofs.RowChanges.{RowsMove, rows_move}
+use Rattle.protocol.proofs.RowsStay.{answers_stay}
 
 -- At one point: operations have started by now, in the order of their rows; and answers were given by now, after their operations started.
 record InTime (system : System) : Type 0 where
@@ -22,8 +22,8 @@ in_time_after : (before after : System) → RowsMove before after → InTime bef
 in_time_after before after rows in_time = grind (arith, cases_lt)
 
 in_time : (setting : Setting) (system : System) → Reached setting system → InTime system
-in_time setting system (opens opening) = at_opening system opening.no_operations
-in_time setting system (moves {before} reached move) = in_time_after before system (rows_move setting before system move) (in_time setting before reached)
+in_time setting system (AtOpening opening) = at_opening system opening.no_operations
+in_time setting system (ByMove {before} reached move) = in_time_after before system (rows_move setting before system move) (in_time setting before reached)
 
 module _ (setting : Setting) (system : System) (reached : Reached setting system) where
   pub starts_rise : (first second : ℕ) → first < second → second < system.operations.count → (system.operations.row first).start < (system.operations.row second).start
@@ -46,15 +46,15 @@ since_after early between late so_far rows = grind (arith, cases_lt)
 
 module _ (setting : Setting) (early : System) where
   pub reached_later : (late : System) → Reached setting early → Later setting early late → Reached setting late
-  reached_later late reached now = reached
-  reached_later late reached (and_then {between} later move) = moves (reached_later between reached later) move
+  reached_later late reached Now = reached
+  reached_later late reached (AfterMove {between} later move) = ByMove (reached_later between reached later) move
 
   since : (late : System) → Later setting early late → Since early late
-  since late now = since_now early
-  since late (and_then {between} later move) = since_after early between late (since between later) (rows_move setting between late move)
+  since late Now = since_now early
+  since late (AfterMove {between} later move) = since_after early between late (since between later) (rows_move setting between late move)
 
   -- an answer was given by the early moment, and stays
   pub moments_tell : (late : System) → Reached setting early → Later setting early late
-      → (first second : ℕ) → IsAnswered early first → early.operations.count ≤ second → second < late.operations.count → AnsweredBefore late first second
-  moments_tell late reached later first second given past in_table =
-      grind (arith, answers_stay setting early late later first given, (in_time setting early reached).answered first given, (since late later).starts_after second past in_table)
+      → (first second : ℕ) → AnsweredBefore early first second → second < late.operations.count → (late.operations.row first).answer < (late.operations.row second).start
+  moments_tell late reached later first second before in_table =
+      grind (arith, answers_stay setting early late later first before.0, (in_time setting early reached).answered first before.0, (since late later).starts_after second before.1 in_table)

@@ -2,117 +2,86 @@
 use Rattle.std.proofs.Common.{◌≡◌, ℕ, Some, None, sym, refl, ap, subst, inl, inr, arith}
 use Rattle.protocol.specs.State.{Copy, Configuration, Get, GetAck, PutAck, Freeze, Put, Held, Update, System, UnderWay, Setting}
 use Rattle.protocol.specs.Effects.{quiet, After}
-use Rattle.protocol.specs.Conditions.{InGroup, Obeys, MayJoin, IsDecided}
-use Rattle.protocol.specs.Changes.{storing, stopping, get_acknowledged, put_acknowledged, freeze_obeyed, update_taken, proposal_sent, node_stopped}
-use Rattle.protocol.proofs.History.{Fact, WasAcknowledged, WasHeld, NoFact, History, position}
+use Rattle.protocol.specs.Conditions.{Obeys, MayJoin, IsDecided}
+use Rattle.protocol.specs.Changes.{held_out, storing, stopping, get_acknowledged, put_acknowledged, freeze_obeyed, update_taken, proposal_sent, node_stopped}
+use Rattle.protocol.proofs.History.{off_duty, Fact, WasAcknowledged, WasHeld, NoFact, position}
 use Rattle.protocol.proofs.Lasting.{decided_is_genuine}
-use Rattle.protocol.proofs.Standing.{history_of, with_fact, FrameStands, Sound}
+use Rattle.protocol.proofs.Standing.{history_of, with_fact, history, history_after, FrameStands, Sound}
 use Rattle.protocol.proofs.NodeSteps.{newer_is_above, newer_is_genuine, keeps_place, joins_next, freezes_in_place}
-use Rattle.protocol.proofs.SoundAfter.{Taken}
-use Rattle.protocol.proofs.Shared.{replaced, replaced_here, replaced_elsewhere, not_both, not_started, said, reply_stands, joined_is, proposals_stay}
+use Rattle.protocol.proofs.SoundAfter.{ShownMove}
+use Rattle.protocol.proofs.Shared.{plain_move, replaced, replaced_here, replaced_elsewhere, not_both, not_started, frame_says, reply_stands, joined_is, proposals_stay}
 
-module _ (setting : Setting) (Earlier : Fact → Type 0) (before after : System) (sound : Sound setting Earlier before) where
-  -- the history before the move, and the one after it, where the move establishes the fact and nobody joins
-  abbrev h : History
-  h = history_of before sound.joined sound.known
-
-  abbrev h_with : Fact → History
-  h_with fact = history_of after sound.joined (with_fact sound.known fact)
-
+module _ {setting : Setting} {Earlier : Fact → Type 0} {before : System} (sound : Sound setting Earlier before) (after : System) where
   -- A get is delivered: its receiver, which is active, acknowledges the read.
-  pub deliver_get : (receiver sender number operation : ℕ) → UnderWay (Get receiver sender number operation) before → Obeys before receiver sender number
+  pub deliver_get : {receiver sender number operation : ℕ} → UnderWay (Get receiver sender number operation) before → Obeys (before.nodes receiver) sender number
       → After (get_acknowledged receiver sender number operation) before after
-      → Taken setting Earlier before after sound
-  deliver_get receiver sender number operation there obeys change =
-      let (is_started, says) = said sound (Get receiver sender number operation) operation refl there in
+      → ShownMove setting Earlier before after sound
+  deliver_get {receiver} {sender} {number} {operation} there obeys change =
+      let (is_started, says) = frame_says sound (Get receiver sender number operation) operation refl there in
       let fact = WasAcknowledged (sound.request operation) receiver in
-      record {
-        effect = get_acknowledged receiver sender number operation;
-        change = change;
-        fact = fact;
-        joined = sound.joined;
-        request = sound.request;
+      plain_move sound after (get_acknowledged receiver sender number operation) fact refl refl change change.proposals change.decisions (record {
         justified = record {
           started = says.0;
-          still_active = grind (arith, change.nodes receiver, obeys, says.2);
+          still_active = omega (arith, ap position (change.nodes receiver), ap off_duty obeys.still_active, obeys.same_number, says.2);
           stored = λ writes. absurd (not_both (sound.request operation).writes writes says.1);
         };
         nodes = λ node. refl;
-        requests_kept = λ index old. refl;
         rows = tt;
-        started = not_started fact refl;
-        frames = reply_stands (h_with fact) sound.request after.operations.count (GetAck sender receiver number operation) operation refl (omega (arith, is_started, change.operations.0)) (inr refl);
-        proposals = proposals_stay sound after sound.joined fact refl change.proposals change.decisions;
-      }
+        frames = reply_stands (history_after sound after fact) sound.request after.operations.count (GetAck sender receiver number operation) operation refl (omega (arith, is_started, change.operations.0)) (inr refl);
+      })
 
   -- A put is delivered: its receiver, which is active, has stored the write or a higher copy, and acknowledges it.
-  pub deliver_put : (receiver sender number operation : ℕ) (copy : Copy) → UnderWay (Put receiver sender number operation copy) before → Obeys before receiver sender number
+  pub deliver_put : {receiver sender number operation : ℕ} {copy : Copy} → UnderWay (Put receiver sender number operation copy) before → Obeys (before.nodes receiver) sender number
       → After (put_acknowledged before receiver sender number operation copy) before after
-      → Taken setting Earlier before after sound
-  deliver_put receiver sender number operation copy there obeys change =
-      let (is_started, says) = said sound (Put receiver sender number operation copy) operation refl there in
+      → ShownMove setting Earlier before after sound
+  deliver_put {receiver} {sender} {number} {operation} {copy} there obeys change =
+      let (is_started, says) = frame_says sound (Put receiver sender number operation copy) operation refl there in
       let fact = WasAcknowledged (sound.request operation) receiver in
       let here = change.nodes.here in
       let above = newer_is_above (before.nodes receiver).stored copy in
-      record {
-        effect = put_acknowledged before receiver sender number operation copy;
-        change = change;
-        fact = fact;
-        joined = sound.joined;
-        request = sound.request;
+      plain_move sound after (put_acknowledged before receiver sender number operation copy) fact refl refl change change.proposals change.decisions (record {
         justified = record {
           started = says.0;
-          still_active = grind (arith, here, obeys, says.2);
+          still_active = omega (arith, ap position here, ap off_duty obeys.still_active, obeys.same_number, says.2);
           stored = λ writes. omega (arith, ap (λ n. n.stored.tag) here, above, ap (λ c. c.tag) says.3);
         };
         nodes = (
           λ other is_other. refl,
-          keeps_place setting h (h_with fact) receiver (storing (before.nodes receiver) copy) here (sound.invariant.nodes receiver).matches refl
+          keeps_place setting (history sound) (history_after sound after fact) receiver (storing (before.nodes receiver) copy) here (sound.invariant.nodes receiver).matches refl
               (record { number = refl; members = refl; opening = refl; duty = omega arith; idle = λ idle. idle; newest = omega arith })
-              (omega (arith, above)) (newer_is_genuine setting h (before.nodes receiver).stored copy (inr (sound.request operation, record { started = says.0; writes = says.1; same = says.3 })))
+              (omega (arith, above)) (newer_is_genuine setting (history sound) (before.nodes receiver).stored copy (inr (sound.request operation, record { started = says.0; writes = says.1; same = says.3 })))
               (omega arith) (inl refl),
         );
-        requests_kept = λ index old. refl;
         rows = tt;
-        started = not_started fact refl;
-        frames = reply_stands (h_with fact) sound.request after.operations.count (PutAck sender receiver number operation) operation refl (omega (arith, is_started, change.operations.0)) (inr refl);
-        proposals = proposals_stay sound after sound.joined fact refl change.proposals change.decisions;
-      }
+        frames = reply_stands (history_after sound after fact) sound.request after.operations.count (PutAck sender receiver number operation) operation refl (omega (arith, is_started, change.operations.0)) (inr refl);
+      })
 
   -- A freeze is delivered: its receiver has frozen, and held out what it has stored.
-  pub deliver_freeze : (receiver sender number operation : ℕ) → UnderWay (Freeze receiver sender number operation) before → InGroup before receiver → (before.nodes receiver).number ≡ number
+  pub deliver_freeze : {receiver sender number operation : ℕ} → UnderWay (Freeze receiver sender number operation) before → (before.nodes receiver).number ≡ number
       → After (freeze_obeyed before receiver sender number operation) before after
-      → Taken setting Earlier before after sound
-  deliver_freeze receiver sender number operation there in_group same_number change =
-      let (is_started, says) = said sound (Freeze receiver sender number operation) operation refl there in
+      → ShownMove setting Earlier before after sound
+  deliver_freeze {receiver} {sender} {number} {operation} there same_number change =
+      let (is_started, says) = frame_says sound (Freeze receiver sender number operation) operation refl there in
       let configuration = (sound.request operation).configuration in
-      let fact = WasHeld configuration receiver (before.nodes receiver).stored in
-      record {
-        effect = freeze_obeyed before receiver sender number operation;
-        change = change;
-        fact = fact;
-        joined = sound.joined;
-        request = sound.request;
+      let fact = WasHeld configuration receiver (held_out before receiver) in
+      plain_move sound after (freeze_obeyed before receiver sender number operation) fact refl refl change change.proposals change.decisions (record {
         justified = record {
           under = joined_is sound receiver configuration says.0 (omega (arith, says.1, same_number));
           past = omega (arith, ap position change.nodes.here, says.1, same_number);
           stored = refl;
         };
-        nodes = (λ other is_other. refl, freezes_in_place setting h (h_with fact) receiver change.nodes.here (sound.invariant.nodes receiver).matches refl);
-        requests_kept = λ index old. refl;
+        nodes = (λ other is_other. refl, freezes_in_place setting (history sound) (history_after sound after fact) receiver change.nodes.here (sound.invariant.nodes receiver).matches refl);
         rows = tt;
-        started = not_started fact refl;
         frames =
-            reply_stands (h_with fact) sound.request after.operations.count (Held sender receiver number operation (before.nodes receiver).stored) operation refl
+            reply_stands (history_after sound after fact) sound.request after.operations.count (Held sender receiver number operation (held_out before receiver)) operation refl
             (omega (arith, is_started, change.operations.0)) (inr refl);
-        proposals = proposals_stay sound after sound.joined fact refl change.proposals change.decisions;
-      }
+      })
 
   -- An update is delivered: it carries a decided configuration, and its receiver has joined that.
-  pub deliver_update : (receiver sender : ℕ) (next : Configuration) → UnderWay (Update receiver sender next) before → MayJoin before receiver next
+  pub deliver_update : {receiver sender : ℕ} {next : Configuration} → UnderWay (Update receiver sender next) before → MayJoin receiver (before.nodes receiver) next
       → After (update_taken before receiver next) before after
-      → Taken setting Earlier before after sound
-  deliver_update receiver sender next there may_join change =
+      → ShownMove setting Earlier before after sound
+  deliver_update {receiver} {sender} {next} there may_join change =
       let (decided, above_0) = (sound.frames (Update receiver sender next) there).says in
       let joined = replaced sound.joined receiver next in
       record {
@@ -124,8 +93,8 @@ module _ (setting : Setting) (Earlier : Fact → Type 0) (before after : System)
         justified = tt;
         nodes = (
           replaced_elsewhere sound.joined receiver next,
-          joins_next setting h (history_of after joined (with_fact sound.known NoFact)) receiver next change.nodes.here (replaced_here sound.joined receiver next)
-              (sound.invariant.nodes receiver).matches decided (decided_is_genuine setting h sound.invariant next decided) above_0 may_join.idle_or_lower,
+          joins_next setting (history sound) (history_of after joined (with_fact sound.known NoFact)) receiver next change.nodes.here (replaced_here sound.joined receiver next)
+              (sound.invariant.nodes receiver).matches decided (decided_is_genuine setting (history sound) sound.invariant next decided) above_0 may_join,
         );
         requests_kept = λ index old. refl;
         rows = tt;
@@ -135,49 +104,33 @@ module _ (setting : Setting) (Earlier : Fact → Type 0) (before after : System)
       }
 
   -- A node stops: for all that is known it stays where it is.
-  pub stop : (node : ℕ) → After (node_stopped before node) before after → Taken setting Earlier before after sound
-  stop node change = record {
-    effect = node_stopped before node;
-    change = change;
-    fact = NoFact;
-    joined = sound.joined;
-    request = sound.request;
+  pub stop : (node : ℕ) → After (node_stopped before node) before after → ShownMove setting Earlier before after sound
+  stop node change = plain_move sound after (node_stopped before node) NoFact refl refl change change.proposals change.decisions (record {
     justified = tt;
     nodes = (
       λ other is_other. refl,
-      keeps_place setting h (h_with NoFact) node (stopping (before.nodes node)) change.nodes.here (sound.invariant.nodes node).matches refl
+      keeps_place setting (history sound) (history_after sound after NoFact) node (stopping (before.nodes node)) change.nodes.here (sound.invariant.nodes node).matches refl
           (record { number = refl; members = refl; opening = refl; duty = omega arith; idle = λ idle. idle; newest = omega arith })
           (omega arith) (inl refl) (omega arith) (inl refl),
     );
-    requests_kept = λ index old. refl;
     rows = tt;
-    started = not_started NoFact refl;
     frames = λ frame sent. absurd sent;
-    proposals = proposals_stay sound after sound.joined NoFact refl change.proposals change.decisions;
-  }
+  })
 
   -- A node settles: what it sends was decided under its number.
-  pub settle : (node proposal : ℕ) → IsDecided before node proposal
+  pub settle : {node proposal : ℕ} → IsDecided before (before.nodes node).number proposal
       → After (proposal_sent before node proposal) before after
-      → Taken setting Earlier before after sound
-  settle node proposal is_decided change = record {
-    effect = proposal_sent before node proposal;
-    change = change;
-    fact = NoFact;
-    joined = sound.joined;
-    request = sound.request;
+      → ShownMove setting Earlier before after sound
+  settle {node} {proposal} is_decided change = plain_move sound after (proposal_sent before node proposal) NoFact refl refl change change.proposals change.decisions (record {
     justified = tt;
     nodes = λ other. refl;
-    requests_kept = λ index old. refl;
     rows = tt;
-    started = not_started NoFact refl;
-    frames = λ frame sent. subst (λ f. FrameStands (h_with NoFact) sound.request after.operations.count f) (sym sent.2) update_stands;
-    proposals = proposals_stay sound after sound.joined NoFact refl change.proposals change.decisions;
-  }
+    frames = λ frame sent. subst (λ f. FrameStands (history_after sound after NoFact) sound.request after.operations.count f) (sym sent.2) update_stands;
+  })
     where
-      update_stands : {member : ℕ} → FrameStands (h_with NoFact) sound.request after.operations.count (Update member node (before.proposals.row proposal))
+      update_stands : {member : ℕ} → FrameStands (history_after sound after NoFact) sound.request after.operations.count (Update member node (before.proposals.row proposal))
       update_stands = record {
-        request = sound.request 0;
+        request = sound.request proposal;
         at = λ operation names. absurd (not_some operation names);
         says = (inl (sound.proposals.decided (before.nodes node).number proposal is_decided.decision is_decided.is_there is_decided.follows), omega (arith, is_decided.follows));
       }
@@ -186,18 +139,10 @@ module _ (setting : Setting) (Earlier : Fact → Type 0) (before after : System)
           not_some operation names = cc
 
   -- Frames are lost: nothing that stood depended on them.
-  pub lose : After quiet before after → Taken setting Earlier before after sound
-  lose change = record {
-    effect = quiet;
-    change = change;
-    fact = NoFact;
-    joined = sound.joined;
-    request = sound.request;
+  pub lose : After quiet before after → ShownMove setting Earlier before after sound
+  lose change = plain_move sound after quiet NoFact refl refl change change.proposals change.decisions (record {
     justified = tt;
     nodes = λ other. refl;
-    requests_kept = λ index old. refl;
     rows = tt;
-    started = not_started NoFact refl;
     frames = λ frame sent. absurd sent;
-    proposals = proposals_stay sound after sound.joined NoFact refl change.proposals change.decisions;
-  }
+  })

@@ -1,8 +1,10 @@
 -- What a move makes of a node is a step: the node keeps its place, or it joins a configuration.
 use Rattle.std.proofs.Common.{◌≡◌, ℕ, ◌<◌, ◌≤◌, Bool, true, false, nat_lt, ◌⊎◌, sym, refl, ap, ◌∙◌, subst, subst₂, inl, inr, arith, ltb-false, ltb-true}
-use Rattle.protocol.specs.State.{Copy, newer, Configuration, Node, Status, Idle, Active, Frozen, Setting}
+use Rattle.protocol.specs.State.{Copy, newer, Configuration, Node, Idle, Setting}
+use Rattle.protocol.specs.Conditions.{MayJoin}
 use Rattle.protocol.specs.Changes.{frozen, joining}
-use Rattle.protocol.proofs.History.{Request, WasAnswered, WasDecided, History, off_duty, position, WrittenBy, Genuine, Matches, NodeStep, Serves}
+use Rattle.protocol.proofs.Lasting.{off_duty_at_most_1}
+use Rattle.protocol.proofs.History.{WasDecided, History, off_duty, position, Genuine, Matches, OwnAnswer, NodeStep}
 
 -- the newer of two copies is one of them, by their tags
 pub newer_is : (old new : Copy) → ((newer old new ≡ old) × (new.tag ≤ old.tag)) ⊎ ((newer old new ≡ new) × (old.tag < new.tag))
@@ -37,15 +39,6 @@ pub record KeepsPlace (old new : Node) : Type 0 where
   pub idle : new.status ≡ Idle → old.status ≡ Idle
   pub newest : old.newest ≤ new.newest
 
--- a write of the node's own, under its number, that is answered now
-pub record OwnAnswer (h h' : History) (node : ℕ) (copy : Copy) : Type 0 where
-  pub write : Request
-  pub moment : ℕ
-  pub written : WrittenBy h write copy
-  pub answered : h'.known (WasAnswered write copy moment)
-  pub at : write.node ≡ node
-  pub under : write.configuration.number ≡ (h.joined node).number
-
 module _ (setting : Setting) (h h' : History) (node : ℕ) (new : Node) (here : h'.nodes node ≡ new) where
   -- A node that keeps its place may store a genuine copy that is no lower, and serve a write of its own that is answered.
   pub keeps_place : Matches (h.nodes node) (h.joined node) → h'.joined node ≡ h.joined node → KeepsPlace (h.nodes node) new
@@ -73,23 +66,9 @@ module _ (setting : Setting) (h h' : History) (node : ℕ) (new : Node) (here : 
       stored_step (inl same) = inl (ap (λ n. n.stored) here ∙ same)
       stored_step (inr genuine) = inr (subst (λ n. Genuine setting h n.stored) (sym here) genuine)
 
-      served_step : (new.served ≡ (h.nodes node).served) ⊎ OwnAnswer h h' node new.served → ((h'.nodes node).served ≡ (h.nodes node).served) ⊎ Serves h h' node
+      served_step : (new.served ≡ (h.nodes node).served) ⊎ OwnAnswer h h' node new.served → ((h'.nodes node).served ≡ (h.nodes node).served) ⊎ OwnAnswer h h' node (h'.nodes node).served
       served_step (inl same) = inl (ap (λ n. n.served) here ∙ same)
-      served_step (inr own) =
-          inr
-          (record {
-            write = own.write;
-            moment = own.moment;
-            copy = subst (λ n. WrittenBy h own.write n.served) (sym here) own.written;
-            answered = subst (λ n. h'.known (WasAnswered own.write n.served own.moment)) (sym here) own.answered;
-            at = own.at;
-            under = own.under;
-          })
-
-pub off_duty_at_most_1 : (status : Status) → off_duty status ≤ 1
-off_duty_at_most_1 Idle = omega arith
-off_duty_at_most_1 Active = omega arith
-off_duty_at_most_1 Frozen = omega arith
+      served_step (inr own) = inr (subst (λ n. OwnAnswer h h' node n.served) (sym here) own)
 
 -- A node that freezes keeps its place.
 pub freezes_in_place : (setting : Setting) (h h' : History) (node : ℕ) → h'.nodes node ≡ frozen (h.nodes node) → Matches (h.nodes node) (h.joined node) → h'.joined node ≡ h.joined node → NodeStep setting h h' node
@@ -99,14 +78,14 @@ freezes_in_place setting h h' node here matches joined =
     (omega arith) (inl refl) (omega arith) (inl refl)
 
 -- An idle node holds number 0, so a node that joins takes a higher number.
-number_rises : (old : Node) (configuration : Configuration) (next : Configuration) → Matches old configuration → 0 < next.number → (old.status ≡ Idle) ⊎ (old.number < next.number) → old.number < next.number
-number_rises old configuration next matches above_0 (inl idle) = omega (arith, matches.idle_at_0 idle, above_0)
-number_rises old configuration next matches above_0 (inr lower) = omega (arith, lower)
+number_rises : (node : ℕ) (old : Node) (configuration next : Configuration) → Matches old configuration → 0 < next.number → MayJoin node old next → old.number < next.number
+number_rises node old configuration next matches above_0 may_join =
+    elim may_join.idle_or_lower [ inl idle ↦ omega (arith, matches.idle_at_0 idle, above_0) | inr lower ↦ omega (arith, lower) ]
 
 -- A node that is idle or under a lower number may join a decided configuration, whose copy it serves from then on.
 pub joins_next : (setting : Setting) (h h' : History) (node : ℕ) (next : Configuration) → h'.nodes node ≡ joining (h.nodes node) next → h'.joined node ≡ next
     → Matches (h.nodes node) (h.joined node) → h.known (WasDecided next) → Genuine setting h next.copy → 0 < next.number
-    → ((h.nodes node).status ≡ Idle) ⊎ ((h.nodes node).number < next.number)
+    → MayJoin node (h.nodes node) next
     → NodeStep setting h h' node
 joins_next setting h h' node next here joined matches decided genuine above_0 may_join = record {
   matches = subst₂ (λ n c. Matches n c) (sym here) (sym joined) (record { number = refl; members = refl; opening = refl; idle_at_0 = λ idle. cc });
@@ -129,7 +108,7 @@ joins_next setting h h' node next here joined matches decided genuine above_0 ma
 }
   where
     rises : (h.nodes node).number < next.number
-    rises = number_rises (h.nodes node) (h.joined node) next matches above_0 may_join
+    rises = number_rises node (h.nodes node) (h.joined node) next matches above_0 may_join
 
     stored_step : (newer (h.nodes node).stored next.copy ≡ (h.nodes node).stored) ⊎ Genuine setting h (newer (h.nodes node).stored next.copy)
         → ((h'.nodes node).stored ≡ (h.nodes node).stored) ⊎ Genuine setting h (h'.nodes node).stored

@@ -2,7 +2,7 @@
 use Rattle.std.proofs.Common.{◌≡◌, ℕ, ◌≤◌, ◌⊎◌, inl, inr, ⊎_elim, refl, sym, ◌∙◌, ap, arith}
 use mathlib.Core.Logic.{⊎_map}
 use Rattle.protocol.specs.State.{Configuration, Setting, version_of}
-use Rattle.protocol.proofs.History.{WasDecided, History, Genuine, AnsweredWrite, Serves, Stays, Joins, Step}
+use Rattle.protocol.proofs.History.{WasDecided, History, Genuine, AnsweredWrite, OwnAnswer, Stays, Joins, Step}
 use Rattle.protocol.proofs.Invariant.{SoundNode, Invariant}
 use Rattle.protocol.proofs.Lasting.{genuine_lasts, answered_write_lasts, decided_is_genuine}
 
@@ -34,10 +34,10 @@ module _ {setting : Setting} {h h' : History} (invariant : Invariant setting h) 
       was_answered = rw (same, stays.joined) (⊎_map (λ opening. opening) (answered_write_lasts step.grows) old.served_was_answered)
 
   -- The node stays, and serves a write of its own that was answered: the node gave out its version.
-  answered_write_is_sound : Stays h h' node → Serves h h' node → SoundServed setting h' node
+  answered_write_is_sound : Stays h h' node → OwnAnswer h h' node (h'.nodes node).served → SoundServed setting h' node
   answered_write_is_sound stays serves =
       record {
-        genuine = genuine_lasts step.grows setting (inr (serves.write, serves.copy));
+        genuine = genuine_lasts step.grows setting (inr (serves.write, serves.written));
         above_opening = omega (arith, ap (λ c. c.copy.tag) stays.joined, (invariant.nodes node).served_above_opening, stays.served_grows);
         below_newest = below_newest;
         was_answered =
@@ -47,7 +47,7 @@ module _ {setting : Setting} {h h' : History} (invariant : Invariant setting h) 
               copy = (h'.nodes node).served;
               moment = serves.moment;
               answered = serves.answered;
-              writes = serves.copy.writes;
+              writes = serves.written.writes;
               under = serves.under ∙ sym (ap (λ c. c.number) stays.joined);
               same = refl;
             });
@@ -55,8 +55,8 @@ module _ {setting : Setting} {h h' : History} (invariant : Invariant setting h) 
     where
       below_newest : version_of (h'.nodes node).served.tag ≤ (h'.nodes node).newest
       below_newest =
-          let sound = (invariant.requests serves.write serves.copy.started).write serves.copy.writes in
-          omega (arith, ap (λ c. c.tag) serves.copy.same, sound.given_out, ap (λ n. (h.nodes n).newest) serves.at, (step.node node).newest_grows)
+          let sound = (invariant.requests serves.write serves.written.started).write serves.written.writes in
+          omega (arith, ap (λ c. c.tag) serves.written.same, sound.given_out, ap (λ n. (h.nodes n).newest) serves.at, (step.node node).newest_grows)
 
   -- The node joins a configuration, and serves the copy that this opens with.
   joined_served_is_sound : (next : Configuration) → Joins h h' node next → SoundServed setting h' node

@@ -1,15 +1,15 @@
 -- The order law, from what is known at two points of a run.
-use Rattle.std.proofs.Common.{◌≡◌, ℕ, ◌<◌, ◌≤◌, if◌then◌else◌, ◌⊎◌, sym, refl, ap, ◌∙◌, subst, inl, inr, arith}
+use Rattle.std.proofs.Common.{◌≡◌, ℕ, ◌<◌, ◌≤◌, ◌≢◌, if◌then◌else◌, ◌⊎◌, sym, ap, ◌∙◌, subst, inl, inr, arith}
 use Rattle.std.proofs.lemmas.Bool.{cases_lt}
-use Rattle.protocol.specs.State.{Kind, Read, Write, Regroup, System, Setting, first_of, opening_tag}
-use Rattle.protocol.specs.Moves.{now}
-use Rattle.protocol.specs.Law.{tag_in, IsAnswered, IsWrite, IsAnsweredRead, TookEffect, AnsweredBefore, OrderHolds, TagsCompare}
+use Rattle.protocol.specs.State.{Kind, Read, Write, Regroup, System, Setting, first_of, first_tag}
+use Rattle.protocol.specs.Moves.{Reached, Later}
+use Rattle.protocol.specs.Law.{tag_in, IsAnswered, IsWrite, IsAnsweredRead, TookEffect, AnsweredBefore, OrderLaw, OrderHolds, TagsCompare}
 use Rattle.protocol.specs.Line.{Linearizable}
 use Rattle.protocol.proofs.History.{Fact, WasAnswered, WasDecided, History, Genuine}
 use Rattle.protocol.proofs.Standing.{history_of, ReadStands, WriteStands, StandsAs, Sound}
 use Rattle.protocol.proofs.FactOrder.{TookEffectWith, FactOrder, fact_order}
-use Rattle.protocol.proofs.SoundRuns.{sound_when_reached, sound_later}
-use Rattle.protocol.proofs.AnswersStay.{answers_stay}
+use Rattle.protocol.proofs.SoundRuns.{remembering, sound_when_reached, sound_later}
+use Rattle.protocol.proofs.RowsStay.{requests_stay, answers_stay}
 use Rattle.protocol.proofs.Moments.{starts_rise, starts_first, moments_tell, reached_later}
 use Rattle.protocol.proofs.LineHolds.{line_holds}
 
@@ -22,19 +22,24 @@ module _ {setting : Setting} {Earlier : Fact → Type 0} {system : System} (soun
   order = fact_order setting h sound.invariant
 
   was_answered : (operation : ℕ) → IsAnswered system operation → sound.known (WasAnswered (sound.request operation) (system.operations.row operation).copy (system.operations.row operation).answer)
-  was_answered operation is_answered = go (system.operations.row operation).kind refl (sound.rows operation is_answered.is_started).by_kind
+  was_answered operation is_answered = go (system.operations.row operation).kind (sound.rows operation is_answered.is_started).by_kind
     where
-      go : (kind : Kind) → (system.operations.row operation).kind ≡ kind → StandsAs h (system.operations.row operation) (sound.request operation) kind
+      go : (kind : Kind) → StandsAs setting h (system.operations.row operation) (sound.request operation) kind
           → sound.known (WasAnswered (sound.request operation) (system.operations.row operation).copy (system.operations.row operation).answer)
-      go Read kind stands = stands.answered is_answered.answered
-      go Write kind stands = stands.answered is_answered.answered
-      go Regroup kind stands = absurd (is_answered.not_a_regroup kind)
+      go Read stands = stands.answered is_answered.answered
+      go Write stands = stands.answered is_answered.answered
+      go Regroup stands = absurd (stands.not_answered is_answered.answered)
+
+  pub only_reads_and_writes : (operation : ℕ) → IsAnswered system operation → (system.operations.row operation).kind ≢ Regroup
+  only_reads_and_writes operation is_answered is_regroup =
+      let stands = subst (λ k. StandsAs setting h (system.operations.row operation) (sound.request operation) k) is_regroup (sound.rows operation is_answered.is_started).by_kind in
+      stands.not_answered is_answered.answered
 
   write_stands : (write : ℕ) → IsWrite system write → WriteStands h (system.operations.row write) (sound.request write)
-  write_stands write is_write = subst (λ k. StandsAs h (system.operations.row write) (sound.request write) k) is_write.write (sound.rows write is_write.is_started).by_kind
+  write_stands write is_write = subst (λ k. StandsAs setting h (system.operations.row write) (sound.request write) k) is_write.write (sound.rows write is_write.is_started).by_kind
 
   read_stands : (read : ℕ) → IsAnsweredRead system read → ReadStands h (system.operations.row read) (sound.request read)
-  read_stands read is_read = subst (λ k. StandsAs h (system.operations.row read) (sound.request read) k) is_read.read (sound.rows read is_read.answered.is_started).by_kind
+  read_stands read is_read = subst (λ k. StandsAs setting h (system.operations.row read) (sound.request read) k) is_read.read (sound.rows read is_read.answered.is_started).by_kind
 
   -- (a) A genuine copy is the opening one or is found in the row of a write.
   pub reads : (read : ℕ) → IsAnsweredRead system read
@@ -56,7 +61,7 @@ module _ {setting : Setting} {Earlier : Fact → Type 0} {system : System} (soun
       let same_request = order.tags_differ (sound.request one) (sound.request other) stands.started other_stands.started stands.writes other_stands.writes (omega (arith, ap (λ c. c.tag) stands.copy, ap (λ c. c.tag) other_stands.copy, same)) in
       sym (sound.rows one is_write.is_started).same_operation ∙ ap (λ r. r.operation) same_request ∙ (sound.rows other other_is_write.is_started).same_operation
 
-  pub tags_are_above : (write : ℕ) → IsWrite system write → opening_tag < tag_in system write
+  pub tags_are_above : (write : ℕ) → IsWrite system write → first_tag < tag_in system write
   tags_are_above write is_write =
       let stands = write_stands write is_write in
       omega (arith, ap (λ c. c.tag) stands.copy, ((sound.invariant.requests (sound.request write) stands.started).write stands.writes).above_opening)
@@ -81,20 +86,20 @@ module _ {setting : Setting} {Earlier : Fact → Type 0} {system : System} (soun
   is_started operation (inl is_answered) = is_answered.is_started
   is_started operation (inr returned) = returned.write.is_started
 
-  in_time : (first second : ℕ) → AnsweredBefore system first second → TookEffect system second → (system.operations.row first).answer < (sound.request second).start
-  in_time first second before effect = omega (arith, before.1, (sound.rows second (is_started second effect)).same_start)
+  -- an answer, and an operation that took effect and started at a higher moment
+  module _ (first second : ℕ) (answered : IsAnswered system first) (effect : TookEffect system second) (later : (system.operations.row first).answer < (system.operations.row second).start) where
+    in_time : (system.operations.row first).answer < (sound.request second).start
+    in_time = omega (arith, later, (sound.rows second (is_started second effect)).same_start)
 
-  pub never_higher : (first second : ℕ) → AnsweredBefore system first second → TookEffect system second → tag_in system first ≤ tag_in system second
-  never_higher first second before effect =
-      order.never_higher (sound.request first) (system.operations.row first).copy (system.operations.row first).answer (sound.request second) (system.operations.row second).copy
-      (was_answered first before.0) (took_effect second effect) (in_time first second before effect)
+    pub not_higher : tag_in system first ≤ tag_in system second
+    not_higher =
+        order.never_higher (sound.request first) (system.operations.row first).copy (system.operations.row first).answer (sound.request second) (system.operations.row second).copy
+        (was_answered first answered) (took_effect second effect) in_time
 
-  pub writes_are_higher : (first second : ℕ) → AnsweredBefore system first second → TookEffect system second → (system.operations.row second).kind ≡ Write
-      → tag_in system first < tag_in system second
-  writes_are_higher first second before effect write =
-      order.writes_are_higher (sound.request first) (system.operations.row first).copy (system.operations.row first).answer (sound.request second) (system.operations.row second).copy
-      (was_answered first before.0) (took_effect second effect) (in_time first second before effect)
-      (write_stands second (record { is_started = is_started second effect; write = write })).writes
+    pub write_is_higher : (system.operations.row second).kind ≡ Write → tag_in system first < tag_in system second
+    write_is_higher write =
+        order.writes_are_higher (sound.request first) (system.operations.row first).copy (system.operations.row first).answer (sound.request second) (system.operations.row second).copy
+        (was_answered first answered) (took_effect second effect) in_time (write_stands second (record { is_started = is_started second effect; write = write })).writes
 
 -- (c) A configuration that a node was in at the early point is still known to be decided at the late one, where one is decided for each number.
 module _ {setting : Setting} {early late : System} {Earlier : Fact → Type 0} (sound : Sound setting Earlier early) (sound' : Sound setting sound.known late) where
@@ -126,31 +131,46 @@ module _ {setting : Setting} {early late : System} {Earlier : Fact → Type 0} (
             (omega (arith, lower, matches.number, (sound'.rows operation is_answered.is_started).same_number)),
       )
 
-pub order_holds : OrderHolds
-order_holds setting early late reached later =
-    let sound = sound_when_reached setting early reached in
-    let sound_now : Sound setting sound.known early =
-    record { joined = sound.joined; request = sound.request; known = sound.known; earlier = λ fact known. known; invariant = sound.invariant; rows = sound.rows; back = sound.back; frames = sound.frames; proposals = sound.proposals }
-    in
-    let sound' = sound_later setting sound.known early late sound_now later in
-    record {
-      reads = reads sound';
-      tags_differ = tags_differ sound';
-      tags_are_above = tags_are_above sound';
-      never_higher = never_higher sound';
-      writes_are_higher = writes_are_higher sound';
-      starts_first = starts_first setting late (reached_later setting early late reached later);
-      moments_tell = moments_tell setting early late reached later;
-      starts_rise = starts_rise setting late (reached_later setting early late reached later);
-      same_members = same_members sound sound';
-      same_opening = same_opening sound sound';
-      carried_over = carried_over sound sound';
-      answers_stay = answers_stay setting early late later;
-    }
+-- What is known at the early point is known at the late one. What was answered at the early point was answered at a lower moment than that at which anything starts later.
+module _ (setting : Setting) (early late : System) (reached : Reached setting early) (later : Later setting early late) where
+  sound_early : Sound setting (λ fact. ⊥) early
+  sound_early = sound_when_reached setting early reached
 
--- Linearizability is the order law at one point, read as a line.
+  sound_late : Sound setting sound_early.known late
+  sound_late = sound_later (remembering sound_early) later
+
+  -- an answer given before the second operation started, at the late point
+  module _ (first second : ℕ) (before : AnsweredBefore early first second) (effect : TookEffect late second) where
+    answered : IsAnswered late first
+    answered = (answers_stay setting early late later first before.0).0
+
+    in_order : (late.operations.row first).answer < (late.operations.row second).start
+    in_order = moments_tell setting early late reached later first second before (is_started sound_late second effect)
+
+  pub order_law : OrderLaw setting early late
+  order_law = record {
+    reads = reads sound_late;
+    tags_differ = tags_differ sound_late;
+    tags_are_above = tags_are_above sound_late;
+    never_higher = λ first second before effect. not_higher sound_late first second (answered first second before effect) effect (in_order first second before effect);
+    writes_are_higher = λ first second before effect. write_is_higher sound_late first second (answered first second before effect) effect (in_order first second before effect);
+    same_members = same_members sound_early sound_late;
+    same_opening = same_opening sound_early sound_late;
+    carried_over = carried_over sound_early sound_late;
+    requests_stay = requests_stay setting early late later;
+    answers_stay = answers_stay setting early late later;
+    only_reads_and_writes = only_reads_and_writes sound_late;
+    starts_rise = starts_rise setting late (reached_later setting early late reached later);
+    starts_first = starts_first setting late (reached_later setting early late reached later);
+    moments_tell = moments_tell setting early late reached later;
+  }
+
+pub order_holds : OrderHolds
+order_holds setting early late reached later = order_law setting early late reached later
+
+-- Linearizability is the order law, read as a line.
 pub linearizable : Linearizable
-linearizable setting system reached = line_holds setting system (order_holds setting system system reached now)
+linearizable setting early late reached later = line_holds setting early late (order_law setting early late reached later)
 
 -- Nodes are below 32, so a higher version outweighs any node.
 pub tags_compare : TagsCompare

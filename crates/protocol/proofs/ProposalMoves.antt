@@ -3,13 +3,13 @@ use Rattle.std.proofs.Common.{◌≡◌, ℕ, suc, ◌<◌, ◌≤◌, true, ◌
 use native.Mathlib.Decide.{ℕ_discrete, dec_lt}
 use Rattle.protocol.specs.State.{Configuration, Proposed, Operation, System, Setting, first_of}
 use Rattle.protocol.specs.Effects.{quiet, After}
-use Rattle.protocol.specs.Conditions.{Undecided, Proposes}
+use Rattle.protocol.specs.Conditions.{Undecided, IsDecided, Proposes}
 use Rattle.protocol.specs.Changes.{proposal_of, regroup_proposed, proposal_decided}
-use Rattle.protocol.proofs.History.{Request, Fact, WasHeld, WasProposed, WasDecided, NoFact, NewProposal, Justified, WasStarted}
-use Rattle.protocol.proofs.Standing.{history_of, with_fact, RegroupStands, StandsAs, DecidedIn, ProposalsStand, Sound}
-use Rattle.protocol.proofs.SoundAfter.{Taken, sound_after, fact_is_known}
-use Rattle.protocol.proofs.Shared.{not_started, joined_is, ProposalsLast, Decides, proposals_stand, proposals_stay}
-use Rattle.protocol.proofs.RowMoves.{staged}
+use Rattle.protocol.proofs.History.{Request, Fact, WasProposed, WasDecided, NoFact, NewProposal, Justified, WasStarted}
+use Rattle.protocol.proofs.Standing.{with_fact, history, history_after, RegroupStands, StandsAs, DecidedIn, ProposalsStand, Sound}
+use Rattle.protocol.proofs.SoundAfter.{ShownMove, sound_after, fact_is_known}
+use Rattle.protocol.proofs.Shared.{not_started, joined_is, ProposalsLast, proposals_stand, proposals_stay}
+use Rattle.protocol.proofs.RowMoves.{row_at_stage_stands}
 
 same_value : (one other : ℕ) → Some one ≡ Some other → one ≡ other
 same_value one other same = cc
@@ -26,7 +26,7 @@ none_after {setting} {Earlier} {before} sound number undecided configuration dec
         let same : found.number ≡ number = omega (arith, found.follows, follows) in
         undecided found.proposal (ap before.decisions (sym same) ∙ found.decision) found.is_there
 
-module _ (setting : Setting) (Earlier : Fact → Type 0) (before after : System) (sound : Sound setting Earlier before) where
+module _ {setting : Setting} {Earlier : Fact → Type 0} {before : System} (sound : Sound setting Earlier before) (after : System) where
   -- What a decision under the number makes known: the proposal's configuration if the proposal is there and follows the number, and nothing otherwise.
   module _ (number proposal : ℕ) (none_yet : Undecided before number) (change : After (proposal_decided number proposal) before after) where
     last : ProposalsLast before after
@@ -37,10 +37,10 @@ module _ (setting : Setting) (Earlier : Fact → Type 0) (before after : System)
         stays n p decision (no other) = change.decisions.elsewhere n other ∙ decision
 
     -- a decision after the move was one before it, or is this one
-    old_or_this : (n p : ℕ) → Decides after n p → Decides before n p ⊎ ((n ≡ number) × (p ≡ proposal))
+    old_or_this : (n p : ℕ) → IsDecided after n p → IsDecided before n p ⊎ ((n ≡ number) × (p ≡ proposal))
     old_or_this n p decides = go (ℕ_discrete n number)
       where
-        go : Dec (n ≡ number) → Decides before n p ⊎ ((n ≡ number) × (p ≡ proposal))
+        go : Dec (n ≡ number) → IsDecided before n p ⊎ ((n ≡ number) × (p ≡ proposal))
         go (yes it) = inr (it, same_value p proposal (sym decides.decision ∙ ap after.decisions it ∙ change.decisions.here))
         go (no other) =
             inl
@@ -50,9 +50,9 @@ module _ (setting : Setting) (Earlier : Fact → Type 0) (before after : System)
               follows = ap (λ c. c.number) (sym (change.proposals.1 p)) ∙ decides.follows;
             })
 
-    decided_taken : (fact : Fact) → Justified setting (history_of before sound.joined sound.known) (history_of after sound.joined (with_fact sound.known fact)) fact
+    decided_taken : (fact : Fact) → Justified setting (history sound) (history_after sound after fact) fact
         → ((new : Request) → WasStarted new ≡ fact → ⊥)
-        → ProposalsStand setting after (history_of after sound.joined (with_fact sound.known fact)) → Taken setting Earlier before after sound
+        → ProposalsStand setting after (history_after sound after fact) → ShownMove setting Earlier before after sound
     decided_taken fact justified no_start stand = record {
       effect = proposal_decided number proposal;
       change = change;
@@ -68,24 +68,24 @@ module _ (setting : Setting) (Earlier : Fact → Type 0) (before after : System)
       proposals = stand;
     }
 
-    pub decide : Taken setting Earlier before after sound
+    pub decide : ShownMove setting Earlier before after sound
     decide = go (dec_lt proposal before.proposals.count) (ℕ_discrete (before.proposals.row proposal).number (suc number))
       where
         configuration : Configuration
         configuration = before.proposals.row proposal
 
         -- the decision is on no proposal that is there and follows
-        on_none : (Decides after number proposal → ⊥) → Taken setting Earlier before after sound
+        on_none : (IsDecided after number proposal → ⊥) → ShownMove setting Earlier before after sound
         on_none not_decides =
             decided_taken NoFact tt (λ new same. cc)
             (proposals_stand sound after sound.joined NoFact last (λ p there is_new. absurd (omega (arith, change.proposals.0))) (λ n p decides. new_decisions n p decides (old_or_this n p decides))
             (λ c same. absurd cc))
           where
-            new_decisions : (n p : ℕ) → Decides after n p → Decides before n p ⊎ ((n ≡ number) × (p ≡ proposal)) → Decides before n p ⊎ with_fact sound.known NoFact (WasDecided (after.proposals.row p))
+            new_decisions : (n p : ℕ) → IsDecided after n p → IsDecided before n p ⊎ ((n ≡ number) × (p ≡ proposal)) → IsDecided before n p ⊎ with_fact sound.known NoFact (WasDecided (after.proposals.row p))
             new_decisions n p decides (inl old) = inl old
-            new_decisions n p decides (inr (is_number, is_proposal)) = absurd (not_decides (subst (λ k. Decides after k proposal) is_number (subst (λ k. Decides after n k) is_proposal decides)))
+            new_decisions n p decides (inr (is_number, is_proposal)) = absurd (not_decides (subst (λ k. IsDecided after k proposal) is_number (subst (λ k. IsDecided after n k) is_proposal decides)))
 
-        on_this : proposal < before.proposals.count → configuration.number ≡ suc number → Taken setting Earlier before after sound
+        on_this : proposal < before.proposals.count → configuration.number ≡ suc number → ShownMove setting Earlier before after sound
         on_this there follows =
             decided_taken (WasDecided configuration)
             (record {
@@ -96,7 +96,7 @@ module _ (setting : Setting) (Earlier : Fact → Type 0) (before after : System)
             (proposals_stand sound after sound.joined (WasDecided configuration) last (λ p is_there is_new. absurd (omega (arith, change.proposals.0)))
             (λ n p decides. new_decisions n p (old_or_this n p decides)) found)
           where
-            new_decisions : (n p : ℕ) → Decides before n p ⊎ ((n ≡ number) × (p ≡ proposal)) → Decides before n p ⊎ with_fact sound.known (WasDecided configuration) (WasDecided (after.proposals.row p))
+            new_decisions : (n p : ℕ) → IsDecided before n p ⊎ ((n ≡ number) × (p ≡ proposal)) → IsDecided before n p ⊎ with_fact sound.known (WasDecided configuration) (WasDecided (after.proposals.row p))
             new_decisions n p (inl old) = inl old
             new_decisions n p (inr (is_number, is_proposal)) = inr (inr (ap WasDecided (change.proposals.1 p ∙ ap before.proposals.row is_proposal)))
 
@@ -112,53 +112,50 @@ module _ (setting : Setting) (Earlier : Fact → Type 0) (before after : System)
                   here = change.proposals.1 proposal ∙ sym is_this;
                 }
 
-        go : Dec (proposal < before.proposals.count) → Dec (configuration.number ≡ suc number) → Taken setting Earlier before after sound
+        go : Dec (proposal < before.proposals.count) → Dec (configuration.number ≡ suc number) → ShownMove setting Earlier before after sound
         go (yes there) (yes follows) = on_this there follows
         go (yes there) (no other) = on_none (λ decides. other (sym (ap (λ c. c.number) (change.proposals.1 proposal)) ∙ decides.follows))
         go (no missing) _ = on_none (λ decides. missing (omega (arith, decides.is_there, change.proposals.0)))
 
 -- Proposing takes two steps: the configuration is known to be proposed first, while the system is as it was; then its row is added. If the number was decided on that row in advance, the configuration is decided by that.
-module _ (setting : Setting) (Earlier : Fact → Type 0) (before after : System) (operation : ℕ) (proposes : Proposes setting before operation) where
+module _ {setting : Setting} {Earlier : Fact → Type 0} {before : System} {operation : ℕ} (proposes : Proposes setting before operation) (sound : Sound setting Earlier before) where
   abbrev row : Operation
   row = before.operations.row operation
 
   abbrev next : Configuration
   next = proposal_of row
 
-  stands_as_regroup : (sound : Sound setting Earlier before) → RegroupStands (history_of before sound.joined sound.known) row (sound.request operation)
-  stands_as_regroup sound =
-      subst (λ k. StandsAs (history_of before sound.joined sound.known) row (sound.request operation) k) proposes.is_regroup (sound.rows operation proposes.is_started).by_kind
+  stands_as_regroup : RegroupStands setting (history sound) row (sound.request operation)
+  stands_as_regroup =
+      subst (λ k. StandsAs setting (history sound) row (sound.request operation) k) proposes.is_regroup (sound.rows operation proposes.waits.is_started).by_kind
 
-  -- A freezing set held out copies, and the highest of them is proposed: some copy was held out, for the set is not empty.
-  may_propose : (sound : Sound setting Earlier before) → NewProposal setting (history_of before sound.joined sound.known) next
-  may_propose sound = record {
-    last = configuration;
+  -- A freezing set held out copies, and none is above the regroup's, which is proposed.
+  may_propose : NewProposal setting (history sound) next
+  may_propose = record {
+    previous = configuration;
     decided = stands.decided;
-    follows = ap suc (sym (sound.rows operation proposes.is_started).same_number);
+    follows = ap suc (sym (sound.rows operation proposes.waits.is_started).same_number);
     held = record { set = row.set; winning = freezes; each = stands.each };
-    node = held_by.0;
-    held_by = held_by.1;
+    genuine = stands.genuine;
+    above_opening = stands.above_opening;
   }
     where
       configuration : Configuration
       configuration = (sound.request operation).configuration
 
-      stands : RegroupStands (history_of before sound.joined sound.known) row (sound.request operation)
-      stands = stands_as_regroup sound
+      stands : RegroupStands setting (history sound) row (sound.request operation)
+      stands = stands_as_regroup
 
       is_joined : configuration ≡ sound.joined row.node
-      is_joined = joined_is sound row.node configuration stands.decided (omega (arith, (sound.rows operation proposes.is_started).same_number, proposes.under))
+      is_joined = joined_is sound row.node configuration stands.decided (omega (arith, (sound.rows operation proposes.waits.is_started).same_number, proposes.under))
 
       freezes : setting.freezes (length configuration.members) row.set ≡ true
       freezes =
           subst (λ members. setting.freezes (length members) row.set ≡ true) (sym (ap (λ c. c.members) is_joined ∙ (sound.invariant.nodes row.node).matches.members)) proposes.freezes
 
-      held_by : (node : ℕ) × sound.known (WasHeld configuration node row.copy)
-      held_by = let (place, in_set) = setting.not_empty (length configuration.members) row.set freezes in stands.highest place in_set
-
   -- The configuration is known to be proposed; nothing in the system has changed yet.
-  proposed_first : (sound : Sound setting Earlier before) → Taken setting Earlier before before sound
-  proposed_first sound = record {
+  proposed_first : ShownMove setting Earlier before before sound
+  proposed_first = record {
     effect = quiet;
     change = record {
       nodes = λ node. refl;
@@ -171,7 +168,7 @@ module _ (setting : Setting) (Earlier : Fact → Type 0) (before after : System)
     fact = WasProposed next;
     joined = sound.joined;
     request = sound.request;
-    justified = may_propose sound;
+    justified = may_propose;
     nodes = λ node. refl;
     requests_kept = λ index old. refl;
     rows = tt;
@@ -180,15 +177,15 @@ module _ (setting : Setting) (Earlier : Fact → Type 0) (before after : System)
     proposals = proposals_stay sound before sound.joined (WasProposed next) refl (refl, λ index. refl) (λ number. refl);
   }
 
-  module _ (sound : Sound setting Earlier before) (known_as_proposed : sound.known (WasProposed next)) (change : After (regroup_proposed before operation) before after) where
+  module _ {after : System} (known_as_proposed : sound.known (WasProposed next)) (change : After (regroup_proposed before operation) before after) where
     added_last : ProposalsLast before after
     added_last = record { count = omega (arith, change.proposals.count); rows = change.proposals.elsewhere; decisions = λ number proposal decision. change.decisions number ∙ decision }
 
-    added_taken : (fact : Fact) → Justified setting (history_of before sound.joined sound.known) (history_of after sound.joined (with_fact sound.known fact)) fact
+    added_taken : (fact : Fact) → Justified setting (history sound) (history_after sound after fact) fact
         → ((new : Request) → WasStarted new ≡ fact → ⊥)
-        → ((number proposal : ℕ) → Decides after number proposal → Decides before number proposal ⊎ with_fact sound.known fact (WasDecided (after.proposals.row proposal)))
+        → ((number proposal : ℕ) → IsDecided after number proposal → IsDecided before number proposal ⊎ with_fact sound.known fact (WasDecided (after.proposals.row proposal)))
         → ((configuration : Configuration) → WasDecided configuration ≡ fact → DecidedIn after configuration)
-        → Taken setting Earlier before after sound
+        → ShownMove setting Earlier before after sound
     added_taken fact justified no_start new_decisions found = record {
       effect = regroup_proposed before operation;
       change = change;
@@ -198,7 +195,7 @@ module _ (setting : Setting) (Earlier : Fact → Type 0) (before after : System)
       justified = justified;
       nodes = λ node. refl;
       requests_kept = λ index old. refl;
-      rows = (refl, staged setting Earlier before after sound fact operation Proposed (λ same. cc) proposes.is_started);
+      rows = (refl, row_at_stage_stands sound after fact operation Proposed (λ same. cc) proposes.waits.is_started);
       started = λ new same. absurd (no_start new same);
       frames = λ frame sent. absurd sent;
       proposals = proposals_stand sound after sound.joined fact added_last new_rows new_decisions found;
@@ -210,11 +207,11 @@ module _ (setting : Setting) (Earlier : Fact → Type 0) (before after : System)
             inl (subst (λ c. sound.known (WasProposed c)) (sym (ap after.proposals.row is_last ∙ change.proposals.here)) known_as_proposed)
 
     -- a decision after the move was one before it, or it is on the new row, under the number of the regroup
-    old_or_in_advance : (number proposal : ℕ) → Decides after number proposal
-        → Decides before number proposal ⊎ ((before.decisions row.number ≡ Some before.proposals.count) × (after.proposals.row proposal ≡ next))
+    old_or_in_advance : (number proposal : ℕ) → IsDecided after number proposal
+        → IsDecided before number proposal ⊎ ((before.decisions row.number ≡ Some before.proposals.count) × (after.proposals.row proposal ≡ next))
     old_or_in_advance number proposal decides = go (ℕ_discrete proposal before.proposals.count)
       where
-        go : Dec (proposal ≡ before.proposals.count) → Decides before number proposal ⊎ ((before.decisions row.number ≡ Some before.proposals.count) × (after.proposals.row proposal ≡ next))
+        go : Dec (proposal ≡ before.proposals.count) → IsDecided before number proposal ⊎ ((before.decisions row.number ≡ Some before.proposals.count) × (after.proposals.row proposal ≡ next))
         go (yes is_new) =
             let here : after.proposals.row proposal ≡ next = ap after.proposals.row is_new ∙ change.proposals.here in
             let same : number ≡ row.number = omega (arith, decides.follows, ap (λ c. c.number) here) in
@@ -229,16 +226,16 @@ module _ (setting : Setting) (Earlier : Fact → Type 0) (before after : System)
             })
 
     -- nobody decided on the new row in advance
-    not_in_advance : (before.decisions row.number ≡ Some before.proposals.count → ⊥) → Taken setting Earlier before after sound
+    not_in_advance : (before.decisions row.number ≡ Some before.proposals.count → ⊥) → ShownMove setting Earlier before after sound
     not_in_advance none = added_taken NoFact tt (λ new same. cc) (λ number proposal decides. go number proposal (old_or_in_advance number proposal decides)) (λ c same. absurd cc)
       where
-        go : (number proposal : ℕ) → Decides before number proposal ⊎ ((before.decisions row.number ≡ Some before.proposals.count) × (after.proposals.row proposal ≡ next))
-            → Decides before number proposal ⊎ with_fact sound.known NoFact (WasDecided (after.proposals.row proposal))
+        go : (number proposal : ℕ) → IsDecided before number proposal ⊎ ((before.decisions row.number ≡ Some before.proposals.count) × (after.proposals.row proposal ≡ next))
+            → IsDecided before number proposal ⊎ with_fact sound.known NoFact (WasDecided (after.proposals.row proposal))
         go number proposal (inl old) = inl old
         go number proposal (inr (in_advance, here)) = absurd (none in_advance)
 
     -- somebody did
-    in_advance : before.decisions row.number ≡ Some before.proposals.count → Taken setting Earlier before after sound
+    in_advance : before.decisions row.number ≡ Some before.proposals.count → ShownMove setting Earlier before after sound
     in_advance decision =
         added_taken (WasDecided next) (record { proposed = known_as_proposed; none_yet = none_after sound row.number (λ proposal other there. undecided proposal other there) }) (λ new same. cc)
         (λ number proposal decides. go number proposal (old_or_in_advance number proposal decides)) found
@@ -246,8 +243,8 @@ module _ (setting : Setting) (Earlier : Fact → Type 0) (before after : System)
         undecided : (proposal : ℕ) → before.decisions row.number ≡ Some proposal → proposal < before.proposals.count → ⊥
         undecided proposal other there = let same = same_value proposal before.proposals.count (sym other ∙ decision) in omega arith
 
-        go : (number proposal : ℕ) → Decides before number proposal ⊎ ((before.decisions row.number ≡ Some before.proposals.count) × (after.proposals.row proposal ≡ next))
-            → Decides before number proposal ⊎ with_fact sound.known (WasDecided next) (WasDecided (after.proposals.row proposal))
+        go : (number proposal : ℕ) → IsDecided before number proposal ⊎ ((before.decisions row.number ≡ Some before.proposals.count) × (after.proposals.row proposal ≡ next))
+            → IsDecided before number proposal ⊎ with_fact sound.known (WasDecided next) (WasDecided (after.proposals.row proposal))
         go number proposal (inl old) = inl old
         go number proposal (inr (advance, here)) = inr (inr (ap WasDecided here))
 
@@ -263,19 +260,20 @@ module _ (setting : Setting) (Earlier : Fact → Type 0) (before after : System)
               here = change.proposals.here ∙ sym is_next;
             }
 
-    added : Taken setting Earlier before after sound
+    added : ShownMove setting Earlier before after sound
     added = go (before.decisions row.number) refl
       where
-        go : (decision : Option ℕ) → before.decisions row.number ≡ decision → Taken setting Earlier before after sound
+        go : (decision : Option ℕ) → before.decisions row.number ≡ decision → ShownMove setting Earlier before after sound
         go None none = not_in_advance (λ some. cc)
         go (Some proposal) some = at (ℕ_discrete proposal before.proposals.count)
           where
-            at : Dec (proposal ≡ before.proposals.count) → Taken setting Earlier before after sound
+            at : Dec (proposal ≡ before.proposals.count) → ShownMove setting Earlier before after sound
             at (yes it) = in_advance (some ∙ ap Some it)
             at (no other) = not_in_advance (λ advance. other (same_value proposal before.proposals.count (sym some ∙ advance)))
 
-  pub propose : Sound setting Earlier before → After (regroup_proposed before operation) before after → Sound setting Earlier after
-  unfolding proposed_first
-  propose sound change =
-      let first = sound_after setting Earlier before before sound (proposed_first sound) in
-      sound_after setting Earlier before after first (added first (fact_is_known setting Earlier before before sound (proposed_first sound)) change)
+pub propose : {setting : Setting} {Earlier : Fact → Type 0} {before after : System} {operation : ℕ} → Proposes setting before operation → Sound setting Earlier before → After (regroup_proposed before operation) before after
+    → Sound setting Earlier after
+unfolding proposed_first
+propose proposes sound change =
+    let first = sound_after (proposed_first proposes sound) in
+    sound_after (added proposes first (fact_is_known (proposed_first proposes sound)) change)

@@ -1,10 +1,12 @@
 -- What the moves share: what a frame that is under way says, why a reply stands, and that proposals stand as they stood.
-use Rattle.std.proofs.Common.{◌≡◌, ℕ, suc, ◌<◌, ◌≤◌, Bool, true, false, if◌then◌else◌, ◌==◌, ◌≢◌, eq-eqb, ne_eqb, ◌⊎◌, Some, sym, refl, ap, ◌∙◌, subst, inl, inr, arith}
+use Rattle.std.proofs.Common.{◌≡◌, ℕ, ◌<◌, ◌≤◌, Bool, true, false, if◌then◌else◌, ◌==◌, ◌≢◌, eq-eqb, ne_eqb, ◌⊎◌, Some, sym, refl, ap, ◌∙◌, subst, inl, inr, arith}
 use native.Mathlib.Decide.{dec_lt}
 use Rattle.protocol.specs.State.{Configuration, Frame, System, UnderWay, Setting, first_of}
-use Rattle.protocol.specs.Effects.{Same, Kept, Changed, RowsChanged}
-use Rattle.protocol.proofs.History.{Request, Fact, WasStarted, WasAcknowledged, WasAnswered, WasHeld, WasProposed, WasDecided, NoFact, History}
-use Rattle.protocol.proofs.Standing.{history_of, with_fact, Says, named, FoundIn, FrameStands, DecidedIn, ProposalsStand, Sound}
+use Rattle.protocol.specs.Conditions.{IsDecided}
+use Rattle.protocol.specs.Effects.{Same, Kept, Effect, Changed, RowsChanged, Sent, After}
+use Rattle.protocol.proofs.History.{Request, Fact, WasStarted, WasAcknowledged, WasAnswered, WasHeld, WasProposed, WasDecided, NoFact, History, Justified}
+use Rattle.protocol.proofs.SoundAfter.{NodesOwed, RowsOwed, ShownMove}
+use Rattle.protocol.proofs.Standing.{history_of, with_fact, history, history_after, Says, named, FoundIn, FrameStands, DecidedIn, ProposalsStand, Sound}
 
 -- a function with one value replaced
 abbrev pub replaced : {A : Type 0} → (ℕ → A) → ℕ → A → ℕ → A
@@ -42,15 +44,15 @@ not_both value is_true is_false = let z : ◌≡◌ {A = ℕ} 0 1 = cc in omega 
 pub not_started : {system : System} {request_of : ℕ → Request} (fact : Fact) → is_start fact ≡ false → (request : Request) → WasStarted request ≡ fact → FoundIn system request_of request
 not_started fact no_start request same = absurd (not_both (is_start fact) (sym (ap is_start same)) no_start)
 
--- A frame that is under way names a row, and what it says is said of that row's request.
-pub said : {setting : Setting} {Earlier : Fact → Type 0} {before : System} (sound : Sound setting Earlier before) (frame : Frame) (operation : ℕ) → named frame ≡ Some operation → UnderWay frame before
+-- A frame that is under way names a row, and what it says is frame_says of that row's request.
+pub frame_says : {setting : Setting} {Earlier : Fact → Type 0} {before : System} (sound : Sound setting Earlier before) (frame : Frame) (operation : ℕ) → named frame ≡ Some operation → UnderWay frame before
     → (operation < before.operations.count) × Says (history_of before sound.joined sound.known) frame (sound.request operation)
-said {before = before} sound frame operation names there =
+frame_says {before = before} sound frame operation names there =
     let stands = sound.frames frame there in
     let (is_started, here) = stands.at operation names in
     (is_started, subst (λ request. Says (history_of before sound.joined sound.known) frame request) (sym here) stands.says)
 
--- A frame stands if what it says is said of the request of the row that it names.
+-- A frame stands if what it says is frame_says of the request of the row that it names.
 pub frame_stands : (h : History) (request_of : ℕ → Request) (count : ℕ) (frame : Frame) (operation : ℕ) (request : Request) → named frame ≡ Some operation → operation < count
     → request_of operation ≡ request → Says h frame request → FrameStands h request_of count frame
 frame_stands h request_of count frame operation request names is_started here says = record { request = request; at = at; says = says }
@@ -77,17 +79,11 @@ pub record ProposalsLast (before after : System) : Type 0 where
   pub rows : (proposal : ℕ) → proposal < before.proposals.count → after.proposals.row proposal ≡ before.proposals.row proposal
   pub decisions : (number proposal : ℕ) → before.decisions number ≡ Some proposal → after.decisions number ≡ Some proposal
 
--- a decision on a proposal that is there, with the number after its own
-pub record Decides (system : System) (number proposal : ℕ) : Type 0 where
-  pub decision : system.decisions number ≡ Some proposal
-  pub is_there : proposal < system.proposals.count
-  pub follows : (system.proposals.row proposal).number ≡ suc number
-
 module _ {setting : Setting} {Earlier : Fact → Type 0} {before : System} (sound : Sound setting Earlier before) (after : System) (joined : ℕ → Configuration) (new : Fact) where
   -- Proposals stand after a move if they last, a new one is known to be proposed, and a new decision to be decided.
   pub proposals_stand : ProposalsLast before after
       → ((proposal : ℕ) → proposal < after.proposals.count → before.proposals.count ≤ proposal → with_fact sound.known new (WasProposed (after.proposals.row proposal)))
-      → ((number proposal : ℕ) → Decides after number proposal → Decides before number proposal ⊎ with_fact sound.known new (WasDecided (after.proposals.row proposal)))
+      → ((number proposal : ℕ) → IsDecided after number proposal → IsDecided before number proposal ⊎ with_fact sound.known new (WasDecided (after.proposals.row proposal)))
       → ((configuration : Configuration) → WasDecided configuration ≡ new → DecidedIn after configuration)
       → ProposalsStand setting after (history_of after joined (with_fact sound.known new))
   proposals_stand last new_rows new_decisions new_found = record {
@@ -100,7 +96,7 @@ module _ {setting : Setting} {Earlier : Fact → Type 0} {before : System} (soun
       proposed proposal there (yes old) = inl (subst (λ c. sound.known (WasProposed c)) (sym (last.rows proposal old)) (sound.proposals.proposed proposal old))
       proposed proposal there (no is_new) = new_rows proposal there (omega arith)
 
-      decided : (number proposal : ℕ) → Decides before number proposal ⊎ with_fact sound.known new (WasDecided (after.proposals.row proposal)) → with_fact sound.known new (WasDecided (after.proposals.row proposal))
+      decided : (number proposal : ℕ) → IsDecided before number proposal ⊎ with_fact sound.known new (WasDecided (after.proposals.row proposal)) → with_fact sound.known new (WasDecided (after.proposals.row proposal))
       decided number proposal (inr known) = known
       decided number proposal (inl old) =
           inl (subst (λ c. sound.known (WasDecided c)) (sym (last.rows proposal old.is_there)) (sound.proposals.decided number proposal old.decision old.is_there old.follows))
@@ -136,3 +132,28 @@ module _ {setting : Setting} {Earlier : Fact → Type 0} {before : System} (soun
         follows = ap (λ c. c.number) (sym (kept.1 proposal)) ∙ decides.follows;
       }))
       (λ configuration is_new. absurd (not_both (is_decision new) (sym (ap is_decision is_new)) no_decision))
+
+-- What a move has to show that starts nothing, decides nothing, and by which nobody joins.
+pub record PlainlyShown {setting : Setting} {Earlier : Fact → Type 0} {before : System} (sound : Sound setting Earlier before) (after : System) (effect : Effect) (fact : Fact) : Type 0 where
+  pub justified : Justified setting (history sound) (history_after sound after fact) fact
+  pub nodes : NodesOwed setting (history sound) (history_after sound after fact) effect.node
+  pub rows : RowsOwed setting before (history_after sound after fact) sound.request effect.operation
+  pub frames : (frame : Frame) → Sent effect.sends frame → FrameStands (history_after sound after fact) sound.request after.operations.count frame
+
+pub plain_move : {setting : Setting} {Earlier : Fact → Type 0} {before : System} (sound : Sound setting Earlier before) (after : System) (effect : Effect) (fact : Fact) → is_start fact ≡ false → is_decision fact ≡ false
+    → After effect before after → RowsChanged Kept before.proposals after.proposals → Changed Same before.decisions after.decisions
+    → PlainlyShown sound after effect fact → ShownMove setting Earlier before after sound
+plain_move sound after effect fact no_start no_decision change kept same shown = record {
+  effect = effect;
+  change = change;
+  fact = fact;
+  joined = sound.joined;
+  request = sound.request;
+  justified = shown.justified;
+  nodes = shown.nodes;
+  requests_kept = λ index old. refl;
+  rows = shown.rows;
+  started = not_started fact no_start;
+  frames = shown.frames;
+  proposals = proposals_stay sound after sound.joined fact no_decision kept same;
+}

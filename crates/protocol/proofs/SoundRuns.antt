@@ -3,14 +3,14 @@ use Rattle.std.proofs.Common.{◌≡◌, ℕ, false, sym, refl, ap, subst, inl, 
 use mathlib.Core.List.Memᴰ
 use mathlib.Core.List.{Memᴰ}
 use Rattle.protocol.specs.State.{System, Setting, first_of}
-use Rattle.protocol.specs.Moves.{Move, StartRead, StartWrite, StartRegroup, DeliverGet, DeliverPut, DeliverFreeze, DeliverAck, AnswerRead, AnswerWrite, DeliverHeld, DeliverLowerHeld, DeliverUpdate, Propose, Settle, Decide, GiveUp, Stop, Lose, Opens, Reached, opens, moves, Later, now, and_then}
+use Rattle.protocol.specs.Moves.{Move, StartRead, StartWrite, StartRegroup, DeliverGet, DeliverPut, DeliverFreeze, DeliverGetAck, DeliverPutAck, AnswerRead, AnswerWrite, DeliverHeld, DeliverLowerHeld, DeliverUpdate, Propose, Settle, Decide, GiveUp, Stop, Lose, Opens, Reached, AtOpening, ByMove, Later, Now, AfterMove}
 use Rattle.protocol.proofs.History.{Fact, WasDecided, Matches}
 use Rattle.protocol.proofs.Standing.{history_of, Sound}
 use Rattle.protocol.proofs.InvariantKept.{invariant_at_opening}
-use Rattle.protocol.proofs.SoundAfter.{Taken, sound_after}
+use Rattle.protocol.proofs.SoundAfter.{sound_after}
 use Rattle.protocol.proofs.NodeMoves.{deliver_get, deliver_put, deliver_freeze, deliver_update, stop, settle, lose}
 use Rattle.protocol.proofs.StartMoves.{start_read, start_write, start_regroup}
-use Rattle.protocol.proofs.RowMoves.{deliver_ack, answer_read, answer_write, deliver_held, deliver_lower_held, give_up}
+use Rattle.protocol.proofs.RowMoves.{deliver_get_ack, deliver_put_ack, answer_read, answer_write, deliver_held, deliver_lower_held, give_up}
 use Rattle.protocol.proofs.ProposalMoves.{decide, propose}
 
 -- At the opening one fact is known: configuration 0 is decided.
@@ -53,41 +53,47 @@ module _ (setting : Setting) (system : System) (opening : Opens setting system) 
   }
 
 -- A move keeps a system sound.
-module _ (setting : Setting) (Earlier : Fact → Type 0) (before after : System) (sound : Sound setting Earlier before) where
-  taken : Taken setting Earlier before after sound → Sound setting Earlier after
-  taken shown = sound_after setting Earlier before after sound shown
-
+module _ {setting : Setting} {Earlier : Fact → Type 0} {before : System} (sound : Sound setting Earlier before) (after : System) where
   pub sound_after_move : Move setting before after → Sound setting Earlier after
-  sound_after_move (StartRead node leads change) = taken (start_read setting Earlier before after sound node leads change)
-  sound_after_move (StartWrite node copy leads next_tag change) = taken (start_write setting Earlier before after sound node copy leads next_tag change)
-  sound_after_move (StartRegroup node new_members in_group change) = taken (start_regroup setting Earlier before after sound node new_members change)
-  sound_after_move (DeliverGet receiver sender number operation there obeys change) = taken (deliver_get setting Earlier before after sound receiver sender number operation there obeys change)
-  sound_after_move (DeliverPut receiver sender number operation copy there obeys change) = taken (deliver_put setting Earlier before after sound receiver sender number operation copy there obeys change)
-  sound_after_move (DeliverFreeze receiver sender number operation there in_group same_number change) =
-      taken (deliver_freeze setting Earlier before after sound receiver sender number operation there in_group same_number change)
-  sound_after_move (DeliverAck kind receiver sender number operation place not_regroup there acknowledges answers change) =
-      taken (deliver_ack setting Earlier before after sound kind receiver sender number operation place not_regroup there acknowledges change)
-  sound_after_move (AnswerRead receiver sender number operation place there acknowledges answers change) =
-      taken (answer_read setting Earlier before after sound receiver sender number operation place there acknowledges answers change)
-  sound_after_move (AnswerWrite receiver sender number operation place there acknowledges answers change) =
-      taken (answer_write setting Earlier before after sound receiver sender number operation place there acknowledges answers change)
-  sound_after_move (DeliverHeld receiver sender number operation place copy there in_group counts first_or_higher change) =
-      taken (deliver_held setting Earlier before after sound receiver sender number operation place copy there counts first_or_higher change)
-  sound_after_move (DeliverLowerHeld receiver sender number operation place copy there in_group counts not_higher change) =
-      taken (deliver_lower_held setting Earlier before after sound receiver sender number operation place copy there counts not_higher change)
-  sound_after_move (DeliverUpdate receiver sender next there may_join change) = taken (deliver_update setting Earlier before after sound receiver sender next there may_join change)
-  sound_after_move (Propose operation proposes change) = propose setting Earlier before after operation proposes sound change
-  sound_after_move (Settle node proposal in_group is_decided change) = taken (settle setting Earlier before after sound node proposal is_decided change)
-  sound_after_move (Decide number proposal none_yet change) = taken (decide setting Earlier before after sound number proposal none_yet change)
-  sound_after_move (GiveUp operation waits change) = taken (give_up setting Earlier before after sound operation waits change)
-  sound_after_move (Stop node change) = taken (stop setting Earlier before after sound node change)
-  sound_after_move (Lose change) = taken (lose setting Earlier before after sound change)
+  sound_after_move (effect, StartRead node leads, change) = sound_after (start_read sound after leads change)
+  sound_after_move (effect, StartWrite node content leads, change) = sound_after (start_write sound after leads change)
+  sound_after_move (effect, StartRegroup node new_members takes_part, change) = sound_after (start_regroup sound after node new_members change)
+  sound_after_move (effect, DeliverGet receiver sender number operation there obeys, change) = sound_after (deliver_get sound after there obeys change)
+  sound_after_move (effect, DeliverPut receiver sender number operation copy there obeys, change) = sound_after (deliver_put sound after there obeys change)
+  sound_after_move (effect, DeliverFreeze receiver sender number operation there takes_part same_number, change) = sound_after (deliver_freeze sound after there same_number change)
+  sound_after_move (effect, DeliverGetAck receiver sender number operation place there counted enough, change) = sound_after (deliver_get_ack sound after there counted change)
+  sound_after_move (effect, DeliverPutAck receiver sender number operation place there counted enough, change) = sound_after (deliver_put_ack sound after there counted change)
+  sound_after_move (effect, AnswerRead receiver sender number operation place there counted enough, change) = sound_after (answer_read sound after there counted enough change)
+  sound_after_move (effect, AnswerWrite receiver sender number operation place there counted enough, change) = sound_after (answer_write sound after there counted enough change)
+  sound_after_move (effect, DeliverHeld receiver sender number operation place copy there takes_part counts first_or_higher, change) = sound_after (deliver_held sound after there counts first_or_higher change)
+  sound_after_move (effect, DeliverLowerHeld receiver sender number operation place copy there takes_part counts not_higher, change) = sound_after (deliver_lower_held sound after there counts not_higher change)
+  sound_after_move (effect, DeliverUpdate receiver sender next there may_join, change) = sound_after (deliver_update sound after there may_join change)
+  sound_after_move (effect, Propose operation proposes, change) = propose proposes sound change
+  sound_after_move (effect, Settle node proposal takes_part is_decided, change) = sound_after (settle sound after is_decided change)
+  sound_after_move (effect, Decide number proposal undecided, change) = sound_after (decide sound after number proposal undecided change)
+  sound_after_move (effect, GiveUp operation waits, change) = sound_after (give_up sound after waits change)
+  sound_after_move (effect, Stop node, change) = sound_after (stop sound after node change)
+  sound_after_move (effect, Lose, change) = sound_after (lose sound after change)
 
 pub sound_when_reached : (setting : Setting) (system : System) → Reached setting system → Sound setting (λ fact. ⊥) system
-sound_when_reached setting system (opens opening) = sound_at_opening setting system opening
-sound_when_reached setting system (moves {before} reached move) = sound_after_move setting (λ fact. ⊥) before system (sound_when_reached setting before reached) move
+sound_when_reached setting system (AtOpening opening) = sound_at_opening setting system opening
+sound_when_reached setting system (ByMove {before} reached move) = sound_after_move (sound_when_reached setting before reached) system move
+
+-- A sound system, with all that is known there to be remembered.
+pub remembering : {setting : Setting} {Earlier : Fact → Type 0} {system : System} (sound : Sound setting Earlier system) → Sound setting sound.known system
+remembering sound = record {
+  joined = sound.joined;
+  request = sound.request;
+  known = sound.known;
+  earlier = λ fact known. known;
+  invariant = sound.invariant;
+  rows = sound.rows;
+  back = sound.back;
+  frames = sound.frames;
+  proposals = sound.proposals;
+}
 
 -- What was known at an early point is known at a late one.
-pub sound_later : (setting : Setting) (Earlier : Fact → Type 0) (early late : System) → Sound setting Earlier early → Later setting early late → Sound setting Earlier late
-sound_later setting Earlier early late sound now = sound
-sound_later setting Earlier early late sound (and_then {between} later move) = sound_after_move setting Earlier between late (sound_later setting Earlier early between sound later) move
+pub sound_later : {setting : Setting} {Earlier : Fact → Type 0} {early late : System} → Sound setting Earlier early → Later setting early late → Sound setting Earlier late
+sound_later sound Now = sound
+sound_later {late} sound (AfterMove later move) = sound_after_move (sound_later sound later) late move

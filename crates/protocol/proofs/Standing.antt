@@ -1,8 +1,9 @@
 -- What the rows, frames and proposals of a system stand for among the facts of its run.
-use Rattle.std.proofs.Common.{◌≡◌, ℕ, suc, ◌<◌, true, false, if◌then◌else◌, ◌⊎◌, Option, Some, None}
+use Rattle.std.proofs.Common.{◌≡◌, ℕ, suc, ◌<◌, ◌≤◌, true, false, if◌then◌else◌, ◌≢◌, ◌⊎◌, Option, Some, None}
 use Rattle.protocol.specs.State.{Tag, Configuration, Kind, Read, Write, Regroup, Answered, Operation, Frame, Get, GetAck, PutAck, Freeze, Put, Held, Update, System, UnderWay, Setting, first_of, node_at}
-use Rattle.protocol.proofs.History.{Request, Fact, WasStarted, WasAcknowledged, WasAnswered, WasHeld, WasProposed, WasDecided, History, HeldBelow}
+use Rattle.protocol.proofs.History.{Request, Fact, WasStarted, WasAcknowledged, WasAnswered, WasHeld, WasProposed, WasDecided, History, Genuine, HeldBelow}
 use Rattle.protocol.proofs.Invariant.{Invariant}
+use Rattle.protocol.proofs.Lasting.{genuine_lasts}
 
 -- The history of a system whose nodes have joined these configurations, with the facts known so far.
 abbrev pub history_of : System → (ℕ → Configuration) → (Fact → Type 0) → History
@@ -27,23 +28,25 @@ pub record WriteStands (h : History) (row : Operation) (request : Request) : Typ
   pub acknowledged : (place : ℕ) → row.set place ≡ true → h.known (WasAcknowledged request (node_at request.configuration.members place))
   pub answered : row.stage ≡ Answered → h.known (WasAnswered request row.copy row.answer)
 
--- Each place of the set held out a copy that is no higher than the row's, and if there is one, the row's copy is one of those.
-pub record RegroupStands (h : History) (row : Operation) (request : Request) : Type 0 where
+-- Each place of the set held out a copy that is no higher than the row's. The row's is a genuine one, and no lower than the opening copy. A regroup is never answered.
+pub record RegroupStands (setting : Setting) (h : History) (row : Operation) (request : Request) : Type 0 where
   pub decided : h.known (WasDecided request.configuration)
   pub each : (place : ℕ) → row.set place ≡ true → HeldBelow h request.configuration row.copy.tag (node_at request.configuration.members place)
-  pub highest : (place : ℕ) → row.set place ≡ true → (node : ℕ) × h.known (WasHeld request.configuration node row.copy)
+  pub genuine : Genuine setting h row.copy
+  pub above_opening : request.configuration.copy.tag ≤ row.copy.tag
+  pub not_answered : row.stage ≢ Answered
 
-abbrev pub StandsAs : History → Operation → Request → Kind → Type 0
-StandsAs h row request Read = ReadStands h row request
-StandsAs h row request Write = WriteStands h row request
-StandsAs h row request Regroup = RegroupStands h row request
+abbrev pub StandsAs : Setting → History → Operation → Request → Kind → Type 0
+StandsAs setting h row request Read = ReadStands h row request
+StandsAs setting h row request Write = WriteStands h row request
+StandsAs setting h row request Regroup = RegroupStands setting h row request
 
-pub record RowStands (h : History) (index : ℕ) (row : Operation) (request : Request) : Type 0 where
+pub record RowStands (setting : Setting) (h : History) (index : ℕ) (row : Operation) (request : Request) : Type 0 where
   pub same_operation : request.operation ≡ index
   pub same_node : request.node ≡ row.node
   pub same_number : request.configuration.number ≡ row.number
   pub same_start : request.start ≡ row.start
-  pub by_kind : StandsAs h row request row.kind
+  pub by_kind : StandsAs setting h row request row.kind
 
 -- Every started request is found in its row.
 pub record FoundIn (system : System) (request_of : ℕ → Request) (request : Request) : Type 0 where
@@ -104,43 +107,52 @@ pub record Sound (setting : Setting) (Earlier : Fact → Type 0) (system : Syste
   pub known : Fact → Type 0
   pub earlier : (fact : Fact) → Earlier fact → known fact
   pub invariant : Invariant setting (history_of system joined known)
-  pub rows : (index : ℕ) → index < system.operations.count → RowStands (history_of system joined known) index (system.operations.row index) (request index)
+  pub rows : (index : ℕ) → index < system.operations.count → RowStands setting (history_of system joined known) index (system.operations.row index) (request index)
   pub back : (started : Request) → known (WasStarted started) → FoundIn system request started
   pub frames : (frame : Frame) → UnderWay frame system → FrameStands (history_of system joined known) request system.operations.count frame
   pub proposals : ProposalsStand setting system (history_of system joined known)
+
+abbrev pub history : {setting : Setting} {Earlier : Fact → Type 0} {system : System} → Sound setting Earlier system → History
+history {system} sound = history_of system sound.joined sound.known
+
+-- the history after a move from a sound system, if the move establishes the fact and nobody joins
+abbrev pub history_after : {setting : Setting} {Earlier : Fact → Type 0} {before : System} → Sound setting Earlier before → System → Fact → History
+history_after sound after fact = history_of after sound.joined (with_fact sound.known fact)
 
 -- What stands, stands when facts are added.
 module _ (h h' : History) (up : (fact : Fact) → h.known fact → h'.known fact) where
   pub held_below_lasts : (configuration : Configuration) (tag : Tag) (node : ℕ) → HeldBelow h configuration tag node → HeldBelow h' configuration tag node
   held_below_lasts configuration tag node old = record { copy = old.copy; held = up (WasHeld configuration node old.copy) old.held; below = old.below }
 
-  stands_as_lasts : (row : Operation) (request : Request) (kind : Kind) → StandsAs h row request kind → StandsAs h' row request kind
-  stands_as_lasts row request Read old = record {
+  stands_as_lasts : (setting : Setting) (row : Operation) (request : Request) (kind : Kind) → StandsAs setting h row request kind → StandsAs setting h' row request kind
+  stands_as_lasts setting row request Read old = record {
     started = up (WasStarted request) old.started;
     reads = old.reads;
     acknowledged = λ place joined. up (WasAcknowledged request (node_at request.configuration.members place)) (old.acknowledged place joined);
     answered = λ answered. up (WasAnswered request row.copy row.answer) (old.answered answered);
   }
-  stands_as_lasts row request Write old = record {
+  stands_as_lasts setting row request Write old = record {
     started = up (WasStarted request) old.started;
     writes = old.writes;
     copy = old.copy;
     acknowledged = λ place joined. up (WasAcknowledged request (node_at request.configuration.members place)) (old.acknowledged place joined);
     answered = λ answered. up (WasAnswered request row.copy row.answer) (old.answered answered);
   }
-  stands_as_lasts row request Regroup old = record {
+  stands_as_lasts setting row request Regroup old = record {
     decided = up (WasDecided request.configuration) old.decided;
     each = λ place joined. held_below_lasts request.configuration row.copy.tag (node_at request.configuration.members place) (old.each place joined);
-    highest = λ place joined. let (node, held) = old.highest place joined in (node, up (WasHeld request.configuration node row.copy) held);
+    genuine = genuine_lasts up setting old.genuine;
+    above_opening = old.above_opening;
+    not_answered = old.not_answered;
   }
 
-  pub row_lasts : (index : ℕ) (row : Operation) (request : Request) → RowStands h index row request → RowStands h' index row request
-  row_lasts index row request old = record {
+  pub row_lasts : (setting : Setting) (index : ℕ) (row : Operation) (request : Request) → RowStands setting h index row request → RowStands setting h' index row request
+  row_lasts setting index row request old = record {
     same_operation = old.same_operation;
     same_node = old.same_node;
     same_number = old.same_number;
     same_start = old.same_start;
-    by_kind = stands_as_lasts row request row.kind old.by_kind;
+    by_kind = stands_as_lasts setting row request row.kind old.by_kind;
   }
 
   pub says_lasts : (frame : Frame) (request : Request) → Says h frame request → Says h' frame request

@@ -1,7 +1,7 @@
 -- What moves change: of a node, of an operation, and in all.
 use Rattle.std.specs.Prelude.{ℕ, suc, max, true, List, Some}
-use Rattle.protocol.specs.State.{Copy, newer, nowhere, joined_by, version_of, Configuration, Active, Frozen, Node, Kind, Read, Write, Regroup, Stage, Open, Answered, GivenUp, Proposed, Operation, Get, GetAck, PutAck, Freeze, Put, Held, Update, System}
-use Rattle.protocol.specs.Effects.{Effect, quiet, Becomes, Turns, Added, Reply, ToEach}
+use Rattle.protocol.specs.State.{Content, Copy, tag_of, newer, nowhere, joined_by, version_of, Configuration, Active, Frozen, Node, Kind, Read, Write, Regroup, Stage, Open, Answered, GivenUp, Proposed, Operation, Get, GetAck, PutAck, Freeze, Put, Held, Update, System}
+use Rattle.protocol.specs.Effects.{Effect, quiet, Becomes, RowBecomes, Added, Reply, ToEach}
 
 -- What a move makes of a node
 
@@ -14,7 +14,7 @@ storing node copy = record node { stored = newer node.stored copy }
 abbrev pub serving : Node → Copy → Node
 serving node copy = record node { served = newer node.served copy }
 
--- a write takes the version after the newest
+-- the version after the newest is given out
 abbrev pub with_next_version : Node → Node
 with_next_version node = record node { newest = suc node.newest }
 
@@ -75,13 +75,17 @@ read_starts before node = record quiet {
   sends = ToEach (before.nodes node).members (λ member. Get member node (before.nodes node).number before.operations.count);
 }
 
+-- what a write writes: the content, under the next version of its node
+abbrev pub written : System → ℕ → Content → Copy
+written before node content = record { tag = tag_of (suc (before.nodes node).newest) node; content = content }
+
 -- a write, whose copy goes to each member
-abbrev pub write_starts : System → ℕ → Copy → Effect
-write_starts before node copy = record quiet {
+abbrev pub write_starts : System → ℕ → Content → Effect
+write_starts before node content = record quiet {
   node = Becomes node (with_next_version (before.nodes node));
-  operation = Added (starting before Write node copy (before.nodes node).members);
+  operation = Added (starting before Write node (written before node content) (before.nodes node).members);
   ticks = true;
-  sends = ToEach (before.nodes node).members (λ member. Put member node (before.nodes node).number before.operations.count copy);
+  sends = ToEach (before.nodes node).members (λ member. Put member node (before.nodes node).number before.operations.count (written before node content));
 }
 
 -- a change to new members: the node freezes, and asks each present member to
@@ -104,39 +108,43 @@ put_acknowledged before receiver sender number operation copy = record quiet {
   sends = Reply (PutAck sender receiver number operation);
 }
 
--- the receiver freezes, and holds out its stored copy
+-- What a node holds out when it freezes: the copy that it has stored, which is no lower than all that it acknowledged.
+abbrev pub held_out : System → ℕ → Copy
+held_out before receiver = (before.nodes receiver).stored
+
+-- the receiver freezes, and holds out its copy
 abbrev pub freeze_obeyed : System → ℕ → ℕ → ℕ → ℕ → Effect
 freeze_obeyed before receiver sender number operation = record quiet {
   node = Becomes receiver (frozen (before.nodes receiver));
-  sends = Reply (Held sender receiver number operation (before.nodes receiver).stored);
+  sends = Reply (Held sender receiver number operation (held_out before receiver));
 }
 
 -- a place joins those that acknowledged the operation, or froze for it, and that is all
 abbrev pub place_joins : System → ℕ → ℕ → Effect
-place_joins before operation place = record quiet { operation = Turns operation (with_place (before.operations.row operation) place) }
+place_joins before operation place = record quiet { operation = RowBecomes operation (with_place (before.operations.row operation) place) }
 
--- what a read is answered with: the copy that its node serves at this moment
+-- What a read is answered with: the copy that its node serves at this moment, and not the one that it has stored. A copy that is only stored may be lost in the next change of the group.
 abbrev pub read_out : System → ℕ → Copy
 read_out before receiver = (before.nodes receiver).served
 
 -- a place joins, and the read is answered
 abbrev pub read_answered : System → ℕ → ℕ → ℕ → Effect
 read_answered before receiver operation place = record quiet {
-  operation = Turns operation (answered_at (with_copy (with_place (before.operations.row operation) place) (read_out before receiver)) (suc before.moment));
+  operation = RowBecomes operation (answered_at (with_copy (with_place (before.operations.row operation) place) (read_out before receiver)) (suc before.moment));
   ticks = true;
 }
 
--- a place joins, and the write is answered; from now on it is served, unless what is served is higher
+-- A place joins, and the write is answered. From now on it is served, unless what is served is higher: so no read goes back behind it.
 abbrev pub write_answered : System → ℕ → ℕ → ℕ → Effect
 write_answered before receiver operation place = record quiet {
   node = Becomes receiver (serving (before.nodes receiver) (before.operations.row operation).copy);
-  operation = Turns operation (answered_at (with_place (before.operations.row operation) place) (suc before.moment));
+  operation = RowBecomes operation (answered_at (with_place (before.operations.row operation) place) (suc before.moment));
   ticks = true;
 }
 
 -- a place joins, and the copy that is held out becomes the regroup's
 abbrev pub held_taken : System → ℕ → ℕ → Copy → Effect
-held_taken before operation place copy = record quiet { operation = Turns operation (with_copy (with_place (before.operations.row operation) place) copy) }
+held_taken before operation place copy = record quiet { operation = RowBecomes operation (with_copy (with_place (before.operations.row operation) place) copy) }
 
 -- the receiver joins a configuration
 abbrev pub update_taken : System → ℕ → Configuration → Effect
@@ -145,7 +153,7 @@ update_taken before receiver next = record quiet { node = Becomes receiver (join
 -- a regroup's members and its copy are proposed, under the next number
 abbrev pub regroup_proposed : System → ℕ → Effect
 regroup_proposed before operation = record quiet {
-  operation = Turns operation (at_stage (before.operations.row operation) Proposed);
+  operation = RowBecomes operation (at_stage (before.operations.row operation) Proposed);
   proposal = Added (proposal_of (before.operations.row operation));
 }
 
@@ -159,7 +167,7 @@ abbrev pub proposal_decided : ℕ → ℕ → Effect
 proposal_decided number proposal = record quiet { decision = Becomes number (Some proposal) }
 
 abbrev pub operation_given_up : System → ℕ → Effect
-operation_given_up before operation = record quiet { operation = Turns operation (at_stage (before.operations.row operation) GivenUp) }
+operation_given_up before operation = record quiet { operation = RowBecomes operation (at_stage (before.operations.row operation) GivenUp) }
 
 abbrev pub node_stopped : System → ℕ → Effect
 node_stopped before node = record quiet { node = Becomes node (stopping (before.nodes node)) }

@@ -10,7 +10,7 @@ pub data Change (A : Type 0) : Type 0 where
 -- the rows of a table: none changes, one becomes another, or one is added
 pub data RowChange (A : Type 0) : Type 0 where
   Kept : RowChange A
-  Turns : ℕ → A → RowChange A
+  RowBecomes : ℕ → A → RowChange A
   Added : A → RowChange A
 
 -- frames that are sent: none, one, or one to each member of a list
@@ -46,7 +46,7 @@ Changed (Becomes index value) before after = OneBecomes before after index value
 
 abbrev pub RowsChanged : {A : Type 0} → RowChange A → Table A → Table A → Type 0
 RowsChanged Kept before after = (after.count ≡ before.count) × ((index : ℕ) → after.row index ≡ before.row index)
-RowsChanged (Turns index row) before after = (after.count ≡ before.count) × OneBecomes before.row after.row index row
+RowsChanged (RowBecomes index row) before after = (after.count ≡ before.count) × OneBecomes before.row after.row index row
 RowsChanged (Added row) before after = OneAdded before after row
 
 abbrev pub Sent : Sending → Frame → Type 0

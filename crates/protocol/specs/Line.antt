@@ -1,16 +1,16 @@
 -- Linearizability: the operations that took effect stand in one line, which keeps real time, and in which each read returns what the last write before it wrote.
 use Rattle.std.specs.Prelude.{◌≡◌, ℕ, ◌<◌, ◌≢◌, ◌⊎◌}
 use Rattle.protocol.specs.State.{Read, Write, System, Setting}
-use Rattle.protocol.specs.Moves.{Reached}
+use Rattle.protocol.specs.Moves.{Reached, Later}
 use Rattle.protocol.specs.Law.{tag_in, IsWrite, IsAnsweredRead, TookEffect, AnsweredBefore}
 
 -- of two operations of one tag: a write before a read, and the read that started sooner
 abbrev pub Sooner : System → ℕ → ℕ → Type 0
 Sooner system one other =
     (((system.operations.row one).kind ≡ Write) × ((system.operations.row other).kind ≡ Read))
-    ⊎ (((system.operations.row one).kind ≡ Read) × ((system.operations.row other).kind ≡ Read) × ((system.operations.row one).start < (system.operations.row other).start))
+    ⊎ (((system.operations.row one).kind ≡ Read) × ((system.operations.row other).kind ≡ Read) × (one < other))
 
--- one stands ahead of the other in the line: by tag, a write before the reads of its tag, and those by when they started
+-- one stands ahead of the other in the line: by tag, a write before the reads of its tag, and those by when they started, which is the order of their rows
 abbrev pub Ahead : System → ℕ → ℕ → Type 0
 Ahead system one other = (tag_in system one < tag_in system other) ⊎ ((tag_in system one ≡ tag_in system other) × Sooner system one other)
 
@@ -22,18 +22,19 @@ pub record LastWrite (system : System) (read write : ℕ) : Type 0 where
   pub last : (other : ℕ) → IsWrite system other → TookEffect system other → Ahead system other read → (other ≡ write) ⊎ Ahead system other write
   pub same_content : (system.operations.row read).copy.content ≡ (system.operations.row write).copy.content
 
--- no write is ahead of the read, which returns the opening content
+-- no write is ahead of the read, which returns the first content
 pub record NoWrite (setting : Setting) (system : System) (read : ℕ) : Type 0 where
   pub none : (write : ℕ) → IsWrite system write → TookEffect system write → Ahead system write read → ⊥
-  pub opening_content : (system.operations.row read).copy.content ≡ setting.content
+  pub first_content : (system.operations.row read).copy.content ≡ setting.content
 
-pub record Line (setting : Setting) (system : System) : Type 0 where
-  pub not_ahead_of_itself : (one : ℕ) → Ahead system one one → ⊥
-  pub goes_on : (one other third : ℕ) → Ahead system one other → Ahead system other third → Ahead system one third
-  pub orders_any_two : (one other : ℕ) → TookEffect system one → TookEffect system other → one ≢ other → Ahead system one other ⊎ Ahead system other one
-  pub keeps_real_time : (first second : ℕ) → AnsweredBefore system first second → TookEffect system second → Ahead system first second
-  pub reads_the_last_write : (read : ℕ) → IsAnsweredRead system read → NoWrite setting system read ⊎ ((write : ℕ) × LastWrite system read write)
+-- The line at the late point. It keeps real time: what was answered at some earlier point at which another operation had not started stands ahead of that one.
+pub record Line (setting : Setting) (early late : System) : Type 0 where
+  pub not_ahead_of_itself : (one : ℕ) → Ahead late one one → ⊥
+  pub goes_on : (one other third : ℕ) → Ahead late one other → Ahead late other third → Ahead late one third
+  pub orders_any_two : (one other : ℕ) → TookEffect late one → TookEffect late other → one ≢ other → Ahead late one other ⊎ Ahead late other one
+  pub keeps_real_time : (first second : ℕ) → AnsweredBefore early first second → TookEffect late second → Ahead late first second
+  pub reads_the_last_write : (read : ℕ) → IsAnsweredRead late read → NoWrite setting late read ⊎ ((write : ℕ) × LastWrite late read write)
 
 -- at every point of every run from an opening
 abbrev pub Linearizable : Type 0
-Linearizable = (setting : Setting) (system : System) → Reached setting system → Line setting system
+Linearizable = (setting : Setting) (early late : System) → Reached setting early → Later setting early late → Line setting early late

@@ -1,63 +1,51 @@
 -- The moves of the protocol, and the runs that are made of them.
-use Rattle.std.specs.Prelude.{◌≡◌, ℕ, true, false, ◌≢◌, List, [], if◌then◌else◌, ◌==◌}
+use Rattle.std.specs.Prelude.{◌≡◌, ℕ, true, false, List, [], if◌then◌else◌, ◌==◌}
 use Rattle.std.specs.List.{list_any}
-use Rattle.protocol.specs.State.{Copy, opening_tag, Configuration, Idle, Active, Node, Kind, Read, Write, Regroup, Frame, Get, GetAck, PutAck, Freeze, Put, Held, Update, System, UnderWay, Setting, first_of}
-use Rattle.protocol.specs.Effects.{quiet, After}
-use Rattle.protocol.specs.Conditions.{Leads, IsNextTag, Undecided, InGroup, Obeys, Counts, Acknowledges, Answers, FirstOrHigher, NotHigher, Proposes, IsDecided, IsOpen, MayJoin}
+use Rattle.protocol.specs.State.{Content, Copy, first_tag, Configuration, Idle, Active, Node, Read, Write, Regroup, Get, GetAck, PutAck, Freeze, Put, Held, Update, System, UnderWay, Setting, first_of}
+use Rattle.protocol.specs.Effects.{Effect, quiet, After}
+use Rattle.protocol.specs.Conditions.{Leads, TakesPart, Obeys, MayJoin, IsOpen, Counts, CountsAck, Enough, FirstOrHigher, NotHigher, Proposes, Undecided, IsDecided}
 use Rattle.protocol.specs.Changes.{read_starts, write_starts, regroup_starts, get_acknowledged, put_acknowledged, freeze_obeyed, place_joins, read_answered, write_answered, held_taken, update_taken, regroup_proposed, proposal_sent, proposal_decided, operation_given_up, node_stopped}
 
--- the frame that acknowledges a read or a write (no frame acknowledges a regroup, so the last line says nothing)
-abbrev pub ack : Kind → ℕ → ℕ → ℕ → ℕ → Frame
-ack Read receiver sender number operation = GetAck receiver sender number operation
-ack Write receiver sender number operation = PutAck receiver sender number operation
-ack Regroup receiver sender number operation = PutAck receiver sender number operation
-
--- Each move: what it is about, when it is allowed, and its effect. Deliveries are of frames under way, of all seven kinds; a frame that meets no condition is ignored, which is no move.
-pub data Move (setting : Setting) (before after : System) : Type 0 where
-  StartRead : (node : ℕ) → Leads before node
-      → After (read_starts before node) before after → Move setting before after
-  StartWrite : (node : ℕ) (copy : Copy) → Leads before node → IsNextTag before node copy.tag
-      → After (write_starts before node copy) before after → Move setting before after
-  StartRegroup : (node : ℕ) (new_members : List ℕ) → InGroup before node
-      → After (regroup_starts before node new_members) before after → Move setting before after
-  DeliverGet : (receiver sender number operation : ℕ) → UnderWay (Get receiver sender number operation) before → Obeys before receiver sender number
-      → After (get_acknowledged receiver sender number operation) before after → Move setting before after
-  DeliverPut : (receiver sender number operation : ℕ) (copy : Copy) → UnderWay (Put receiver sender number operation copy) before → Obeys before receiver sender number
-      → After (put_acknowledged before receiver sender number operation copy) before after → Move setting before after
-  DeliverFreeze : (receiver sender number operation : ℕ) → UnderWay (Freeze receiver sender number operation) before → InGroup before receiver → (before.nodes receiver).number ≡ number
-      → After (freeze_obeyed before receiver sender number operation) before after → Move setting before after
-  -- an acknowledgement that is counted and does not answer the operation yet
-  DeliverAck : (kind : Kind) (receiver sender number operation place : ℕ) → kind ≢ Regroup → UnderWay (ack kind receiver sender number operation) before
-      → Acknowledges before kind receiver sender number operation place → Answers setting before receiver operation place false
-      → After (place_joins before operation place) before after → Move setting before after
-  -- one that does
+-- Which effects are allowed before which moves. Deliveries are of frames under way, of all seven kinds. A frame that meets no condition is ignored, which is no move.
+pub data Allowed (setting : Setting) (before : System) : Effect → Type 0 where
+  StartRead : (node : ℕ) → Leads node (before.nodes node) → Allowed setting before (read_starts before node)
+  StartWrite : (node : ℕ) (content : Content) → Leads node (before.nodes node) → Allowed setting before (write_starts before node content)
+  StartRegroup : (node : ℕ) (new_members : List ℕ) → TakesPart (before.nodes node) → Allowed setting before (regroup_starts before node new_members)
+  DeliverGet : (receiver sender number operation : ℕ) → UnderWay (Get receiver sender number operation) before → Obeys (before.nodes receiver) sender number
+      → Allowed setting before (get_acknowledged receiver sender number operation)
+  DeliverPut : (receiver sender number operation : ℕ) (copy : Copy) → UnderWay (Put receiver sender number operation copy) before → Obeys (before.nodes receiver) sender number
+      → Allowed setting before (put_acknowledged before receiver sender number operation copy)
+  DeliverFreeze : (receiver sender number operation : ℕ) → UnderWay (Freeze receiver sender number operation) before → TakesPart (before.nodes receiver) → (before.nodes receiver).number ≡ number
+      → Allowed setting before (freeze_obeyed before receiver sender number operation)
+  -- an acknowledgement that is counted, and is not enough yet
+  DeliverGetAck : (receiver sender number operation place : ℕ) → UnderWay (GetAck receiver sender number operation) before
+      → CountsAck before Read receiver sender number operation place → Enough setting before receiver operation place false → Allowed setting before (place_joins before operation place)
+  DeliverPutAck : (receiver sender number operation place : ℕ) → UnderWay (PutAck receiver sender number operation) before
+      → CountsAck before Write receiver sender number operation place → Enough setting before receiver operation place false → Allowed setting before (place_joins before operation place)
+  -- one that is enough
   AnswerRead : (receiver sender number operation place : ℕ) → UnderWay (GetAck receiver sender number operation) before
-      → Acknowledges before Read receiver sender number operation place → Answers setting before receiver operation place true
-      → After (read_answered before receiver operation place) before after → Move setting before after
+      → CountsAck before Read receiver sender number operation place → Enough setting before receiver operation place true → Allowed setting before (read_answered before receiver operation place)
   AnswerWrite : (receiver sender number operation place : ℕ) → UnderWay (PutAck receiver sender number operation) before
-      → Acknowledges before Write receiver sender number operation place → Answers setting before receiver operation place true
-      → After (write_answered before receiver operation place) before after → Move setting before after
-  DeliverHeld : (receiver sender number operation place : ℕ) (copy : Copy) → UnderWay (Held receiver sender number operation copy) before → InGroup before receiver
-      → Counts before Regroup receiver sender number operation place → FirstOrHigher (before.operations.row operation) copy
-      → After (held_taken before operation place copy) before after → Move setting before after
-  DeliverLowerHeld : (receiver sender number operation place : ℕ) (copy : Copy) → UnderWay (Held receiver sender number operation copy) before → InGroup before receiver
-      → Counts before Regroup receiver sender number operation place → NotHigher (before.operations.row operation) copy
-      → After (place_joins before operation place) before after → Move setting before after
-  DeliverUpdate : (receiver sender : ℕ) (next : Configuration) → UnderWay (Update receiver sender next) before → MayJoin before receiver next
-      → After (update_taken before receiver next) before after → Move setting before after
-  Propose : (operation : ℕ) → Proposes setting before operation
-      → After (regroup_proposed before operation) before after → Move setting before after
-  Settle : (node proposal : ℕ) → InGroup before node → IsDecided before node proposal
-      → After (proposal_sent before node proposal) before after → Move setting before after
+      → CountsAck before Write receiver sender number operation place → Enough setting before receiver operation place true → Allowed setting before (write_answered before receiver operation place)
+  DeliverHeld : (receiver sender number operation place : ℕ) (copy : Copy) → UnderWay (Held receiver sender number operation copy) before → TakesPart (before.nodes receiver)
+      → Counts before Regroup receiver sender number operation place → FirstOrHigher (before.operations.row operation) copy → Allowed setting before (held_taken before operation place copy)
+  DeliverLowerHeld : (receiver sender number operation place : ℕ) (copy : Copy) → UnderWay (Held receiver sender number operation copy) before → TakesPart (before.nodes receiver)
+      → Counts before Regroup receiver sender number operation place → NotHigher (before.operations.row operation) copy → Allowed setting before (place_joins before operation place)
+  DeliverUpdate : (receiver sender : ℕ) (next : Configuration) → UnderWay (Update receiver sender next) before → MayJoin receiver (before.nodes receiver) next
+      → Allowed setting before (update_taken before receiver next)
+  Propose : (operation : ℕ) → Proposes setting before operation → Allowed setting before (regroup_proposed before operation)
+  Settle : (node proposal : ℕ) → TakesPart (before.nodes node) → IsDecided before (before.nodes node).number proposal → Allowed setting before (proposal_sent before node proposal)
   -- the chooser decides under a number, once: on any proposal, made already or not
-  Decide : (number proposal : ℕ) → Undecided before number
-      → After (proposal_decided number proposal) before after → Move setting before after
-  GiveUp : (operation : ℕ) → IsOpen before operation
-      → After (operation_given_up before operation) before after → Move setting before after
+  Decide : (number proposal : ℕ) → Undecided before number → Allowed setting before (proposal_decided number proposal)
+  GiveUp : (operation : ℕ) → IsOpen before operation → Allowed setting before (operation_given_up before operation)
   -- a stopped node makes no move from now on
-  Stop : (node : ℕ) → After (node_stopped before node) before after → Move setting before after
+  Stop : (node : ℕ) → Allowed setting before (node_stopped before node)
   -- frames are lost, and nothing else happens
-  Lose : After quiet before after → Move setting before after
+  Lose : Allowed setting before quiet
+
+-- A move: an effect that is allowed, and the system after it.
+abbrev pub Move : Setting → System → System → Type 0
+Move setting before after = (effect : Effect) × Allowed setting before effect × After effect before after
 
 -- what each node is at the opening
 abbrev pub opened : Setting → ℕ → Node
@@ -66,13 +54,13 @@ opened setting node = record {
   stopped = false;
   number = 0;
   members = setting.members;
-  opening = opening_tag;
+  opening = first_tag;
   stored = (first_of setting).copy;
   served = (first_of setting).copy;
   newest = 0;
 }
 
--- The opening: all nodes hold configuration 0 with its members and the opening copy; members are active, others idle. Nothing was started, nothing is under way. The chooser may have been used before.
+-- The opening: every node holds configuration 0 and its copy; members are active, others idle. Nothing was started, nothing is under way. The chooser may have been used before.
 pub record Opens (setting : Setting) (system : System) : Type 0 where
   pub nodes : (node : ℕ) → system.nodes node ≡ opened setting node
   pub no_operations : system.operations.count ≡ 0
@@ -82,10 +70,10 @@ pub record Opens (setting : Setting) (system : System) : Type 0 where
 
 -- what a run has reached from an opening
 pub data Reached (setting : Setting) : System → Type 0 where
-  opens : {system : System} → Opens setting system → Reached setting system
-  moves : {before after : System} → Reached setting before → Move setting before after → Reached setting after
+  AtOpening : {system : System} → Opens setting system → Reached setting system
+  ByMove : {before after : System} → Reached setting before → Move setting before after → Reached setting after
 
 -- what a run reaches from some point on
 pub data Later (setting : Setting) (early : System) : System → Type 0 where
-  now : Later setting early early
-  and_then : {between late : System} → Later setting early between → Move setting between late → Later setting early late
+  Now : Later setting early early
+  AfterMove : {between late : System} → Later setting early between → Move setting between late → Later setting early late

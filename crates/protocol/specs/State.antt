@@ -2,7 +2,7 @@
 use Rattle.std.specs.Prelude.{◌≡◌, ℕ, ◌+◌, ◌*◌, ◌/◌, ◌<◌, Bool, true, false, ◌||◌, ◌==◌, List, length, slice_index, nat_lt, if◌then◌else◌, Option}
 use mathlib.Core.List.{Memᴰ}
 
--- A tag is a version and a node, kept as one number, so that tags compare as numbers: by version first, then by node. Nodes are below 32.
+-- A tag is a version and a node, kept as one number, so that tags compare as numbers: by version first, then by node. The nodes in tags are below 32.
 abbrev pub Tag : Type 0
 Tag = ℕ
 
@@ -12,9 +12,9 @@ tag_of version node = 32 * version + node
 abbrev pub version_of : Tag → ℕ
 version_of tag = tag / 32
 
--- the tag of the content that a group is opened with: version 0, node 0
-abbrev pub opening_tag : Tag
-opening_tag = 0
+-- the tag of the copy that a sheet begins with: version 0, node 0
+abbrev pub first_tag : Tag
+first_tag = 0
 
 -- a content is its bytes, whatever its kind
 abbrev pub Content : Type 0
@@ -54,11 +54,11 @@ pub record Configuration : Type 0 where
   pub members : List ℕ
   pub copy : Copy
 
--- Active: takes reads and writes. Frozen: a change of its group has begun. Idle: not in a group yet.
+-- Active: takes reads and writes. Frozen: a change of its group has begun. Idle: in no group yet.
 pub data Status : Type 0 where
   Idle Active Frozen : Status
 
--- A node knows the configuration that it is in by number, members and opening tag. It keeps the newest copy that it was sent (stored), and the copy that it would answer to a read (served).
+-- A node knows the configuration that it is in by number, members and opening tag (the tag of the copy that this opens with). It keeps the highest copy that it took from a put or an update (stored), and the copy that it would answer to a read (served).
 pub record Node : Type 0 where
   pub status : Status
   pub stopped : Bool
@@ -67,7 +67,7 @@ pub record Node : Type 0 where
   pub opening : Tag
   pub stored : Copy
   pub served : Copy
-  pub newest : ℕ  -- the newest version that it gave out, or that it was opened with
+  pub newest : ℕ  -- the highest version that it gave out, or that a configuration that it joined opened with
 
 pub data Kind : Type 0 where
   Read Write Regroup : Kind
@@ -80,7 +80,7 @@ pub record Operation : Type 0 where
   pub kind : Kind
   pub node : ℕ  -- where it was started
   pub number : ℕ  -- the number of the configuration that it was started under
-  pub copy : Copy  -- read: its answer; write: what it writes; regroup: the newest copy that was held out to it
+  pub copy : Copy  -- read: its answer; write: what it writes; regroup: the highest copy that was held out to it
   pub members : List ℕ  -- of the configuration that it was started under; of a regroup, the new members
   pub set : Places  -- the places that have acknowledged it, or frozen for it
   pub stage : Stage
@@ -111,17 +111,16 @@ pub record System : Type 0 where
 abbrev pub UnderWay : Frame → System → Type 0
 UnderWay frame system = Memᴰ frame system.frames
 
--- What a run is over: which sets of places answer an operation, and which freeze a group, by the group's size; and what the group is opened with.
--- Any two families will do in which an answering and a freezing set share a place, and a freezing set has a place.
+-- What stays fixed in a run: which sets of places answer an operation, and which freeze a group, by the group's size; the first members and the first content.
+-- Any two families will do in which every answering set shares a place with every freezing set of its size.
 pub record Setting : Type 0 where
   pub answers : ℕ → Places → Bool
   pub freezes : ℕ → Places → Bool
   pub share : (size : ℕ) (answering freezing : Places) → answers size answering ≡ true → freezes size freezing ≡ true
       → (place : ℕ) × (answering place ≡ true) × (freezing place ≡ true)
-  pub not_empty : (size : ℕ) (freezing : Places) → freezes size freezing ≡ true → (place : ℕ) × (freezing place ≡ true)
   pub members : List ℕ
   pub content : Content
 
--- the configuration that a group is opened with, number 0
+-- configuration 0, with which a sheet begins
 abbrev pub first_of : Setting → Configuration
-first_of setting = record { number = 0; members = setting.members; copy = record { tag = opening_tag; content = setting.content } }
+first_of setting = record { number = 0; members = setting.members; copy = record { tag = first_tag; content = setting.content } }

@@ -1,12 +1,8 @@
--- A run: a write that starts at a primary which was left behind is never answered, and yet a later group is opened with its copy, and returns it.
+-- A run: a write that starts at a primary which was left behind is not answered, and yet a later group is opened with its copy, and a read there returns it.
 use Rattle.std.proofs.Common.{List, [], ◌∷◌, refl, lit<, lit≤}
-use Rattle.protocol.specs.State.{Copy, tag_of, Configuration, Get, GetAck, PutAck, Freeze, Put, Held, Update, System, Setting, first_of}
-use Rattle.witness.specs.Witnesses.{CameToLight}
-use Rattle.witness.proofs.Majorities.{majority_of}
-use Rattle.witness.proofs.Playing.{Step, ReadStarts, WriteStarts, RegroupStarts, Arrives, IsProposed, IsDecided, IsSettled, play, opening, later_by, reached_by}
-
-abbrev pub five_nodes : Setting
-five_nodes = majority_of (1 ∷ 2 ∷ 3 ∷ 4 ∷ 5 ∷ []) []
+use Rattle.protocol.specs.State.{Copy, tag_of, Configuration, Get, GetAck, PutAck, Freeze, Put, Held, Update, System, first_of}
+use Rattle.witness.specs.Witnesses.{five_nodes, CameToLight}
+use Rattle.witness.proofs.Playing.{ScriptStep, ReadStarts, WriteStarts, RegroupStarts, Arrives, IsProposed, ChooserDecides, Settles, play, opening, later_by, reached_by}
 
 abbrev at_the_opening : Copy
 at_the_opening = (first_of five_nodes).copy
@@ -22,7 +18,7 @@ abbrev third_group : Configuration
 third_group = record { number = 2; members = 5 ∷ 2 ∷ 3 ∷ []; copy = written }
 
 -- A frame names its receiver, its sender, the number of their configuration, and the operation.
-abbrev first_part : List Step
+abbrev first_part : List ScriptStep
 first_part =
     -- Operation 0, a regroup at node 3, of which nodes 1 and 2 hear nothing
     RegroupStarts 3 (3 ∷ 2 ∷ 4 ∷ [])  -- node 3 freezes, and asks all five to
@@ -33,37 +29,44 @@ first_part =
     ∷ Arrives (Held 3 4 0 0 at_the_opening)  -- no higher one
     ∷ Arrives (Held 3 5 0 0 at_the_opening)  -- no higher one; three of five froze
     ∷ IsProposed 0  -- the second group, with the opening copy
-    ∷ IsDecided 0 0  -- after configuration 0 comes proposal 0
-    ∷ IsSettled 3 0  -- node 3 sends the second group to its members
+    ∷ ChooserDecides 0 0  -- after configuration 0 comes proposal 0
+    ∷ Settles 3 0  -- node 3 sends the second group to its members
     ∷ Arrives (Update 3 3 second_group)  -- node 3 joins it, as its primary
+    ∷ Arrives (Update 4 3 second_group)  -- node 4 joins it
+    -- Operation 1, a read at node 3
+    ∷ ReadStarts 3  -- node 3 asks nodes 3, 2 and 4
+    ∷ Arrives (Get 3 3 1 1)  -- node 3 acknowledges the read
+    ∷ Arrives (Get 4 3 1 1)  -- node 4 acknowledges it
+    ∷ Arrives (GetAck 3 3 1 1)  -- one of three did
+    ∷ Arrives (GetAck 3 4 1 1)  -- two of three did: the read is answered with the opening copy
     ∷ []
 
-abbrev second_part : List Step
+abbrev second_part : List ScriptStep
 second_part =
-    -- Operation 1, a write at node 1, which was left behind
+    -- Operation 2, a write at node 1, which was left behind
     WriteStarts 1 (7 ∷ 8 ∷ [])  -- node 1 sends the copy to all five
-    ∷ Arrives (Put 1 1 0 1 written)  -- node 1 stores it
-    ∷ Arrives (Put 2 1 0 1 written)  -- node 2 stores it
-    ∷ Arrives (PutAck 1 1 0 1)  -- one of five acknowledged the write
-    ∷ Arrives (PutAck 1 2 0 1)  -- two of five did; the other three have frozen
+    ∷ Arrives (Put 1 1 0 2 written)  -- node 1 stores it
+    ∷ Arrives (Put 2 1 0 2 written)  -- node 2 stores it
+    ∷ Arrives (PutAck 1 1 0 2)  -- one of five acknowledged the write
+    ∷ Arrives (PutAck 1 2 0 2)  -- two of five did; the other three have frozen
     ∷ Arrives (Update 2 3 second_group)  -- node 2 joins the second group, and keeps the copy that it stored
-    -- Operation 2, a regroup of the second group at node 3
+    -- Operation 3, a regroup of the second group at node 3
     ∷ RegroupStarts 3 (5 ∷ 2 ∷ 3 ∷ [])  -- node 3 freezes, and asks nodes 3, 2 and 4 to
-    ∷ Arrives (Freeze 3 3 1 2)  -- node 3 holds out the opening copy
-    ∷ Arrives (Freeze 2 3 1 2)  -- node 2 freezes, and holds out what was written
-    ∷ Arrives (Held 3 3 1 2 at_the_opening)  -- the first copy held out is the regroup's
-    ∷ Arrives (Held 3 2 1 2 written)  -- the higher one replaces it; two of three froze
-    ∷ IsProposed 2  -- the third group, with what was written
-    ∷ IsDecided 1 1  -- after configuration 1 comes proposal 1
-    ∷ IsSettled 3 1  -- node 3 sends the third group to its members
+    ∷ Arrives (Freeze 3 3 1 3)  -- node 3 holds out the opening copy
+    ∷ Arrives (Freeze 2 3 1 3)  -- node 2 freezes, and holds out what was written
+    ∷ Arrives (Held 3 3 1 3 at_the_opening)  -- the first copy held out is the regroup's
+    ∷ Arrives (Held 3 2 1 3 written)  -- the higher one replaces it; two of three froze
+    ∷ IsProposed 3  -- the third group, with what was written
+    ∷ ChooserDecides 1 1  -- after configuration 1 comes proposal 1
+    ∷ Settles 3 1  -- node 3 sends the third group to its members
     ∷ Arrives (Update 5 3 third_group)  -- node 5 joins it, as its primary
     ∷ Arrives (Update 2 3 third_group)  -- node 2 joins it
-    -- Operation 3, a read at node 5, to which the write never came
+    -- Operation 4, a read at node 5, to which the write never came
     ∷ ReadStarts 5  -- node 5 asks nodes 5, 2 and 3
-    ∷ Arrives (Get 5 5 2 3)  -- node 5 acknowledges the read
-    ∷ Arrives (Get 2 5 2 3)  -- node 2 acknowledges it
-    ∷ Arrives (GetAck 5 5 2 3)  -- one of three did
-    ∷ Arrives (GetAck 5 2 2 3)  -- two of three did: the read is answered with what was written
+    ∷ Arrives (Get 5 5 2 4)  -- node 5 acknowledges the read
+    ∷ Arrives (Get 2 5 2 4)  -- node 2 acknowledges it
+    ∷ Arrives (GetAck 5 5 2 4)  -- one of three did
+    ∷ Arrives (GetAck 5 2 2 4)  -- two of three did: the read is answered with what was written
     ∷ []
 
 pub before_the_write : System
@@ -79,15 +82,16 @@ unfolding before_the_write after_the_read
 came_to_light = record {
   reached = (reached_by five_nodes first_part).shows (λ any. refl);
   later = (later_by five_nodes before_the_write second_part).shows (λ any. refl);
-  write = 1;
-  read = 3;
+  first = 1;
+  write = 2;
+  read = 4;
+  in_time = (record { is_started = lit< tt; answered = refl }, lit≤ tt);
   is_write = record { is_started = lit< tt; write = refl };
-  not_started = lit≤ tt;
-  node_ahead = 3;
   left_behind = lit< tt;
-  never_answered = refl;
-  was_read = record { answered = record { is_started = lit< tt; not_a_regroup = λ same. cc; answered = refl }; read = refl };
+  still_open = refl;
+  was_read = record { answered = record { is_started = lit< tt; answered = refl }; read = refl };
   same_copy = refl;
-  under = refl;
+  later_group = lit< tt;
+  of_that_group = refl;
   opened_with_it = refl;
 }

@@ -1,5 +1,3 @@
--- A setting for the runs
-pub mod Majorities
 -- Scripts of steps, and how they are checked
 pub mod Performing
 pub mod Checking

@@ -1,14 +1,12 @@
 -- Effects performed: the system that an effect makes of another one, with no frame lost.
-use Rattle.std.proofs.Common.{◌≡◌, ℕ, suc, ◌==◌, ◌⊎◌, List, [], ◌∷◌, ◌++◌, map, if◌then◌else◌, refl, ap, inl, inr, arith, eq-eqb, ne_eqb}
+use Rattle.std.proofs.Common.{◌≡◌, ℕ, suc, ◌⊎◌, List, [], ◌∷◌, ◌++◌, map, if◌then◌else◌, refl, inl, inr, arith}
 use mathlib.Core.List.Memᴰ
 use mathlib.Core.List.{Memᴰ}
+use Rattle.protocol.proofs.Shared.{replaced, replaced_here, replaced_elsewhere}
 use Rattle.protocol.specs.State.{Frame, Table, System}
-use Rattle.protocol.specs.Effects.{Change, Same, Becomes, RowChange, Kept, Turns, Added, Sending, Nothing, Reply, ToEach, Effect, OneBecomes, Changed, RowsChanged, Sent, After}
+use Rattle.protocol.specs.Effects.{Change, Same, Becomes, RowChange, Kept, RowBecomes, Added, Sending, Nothing, Reply, ToEach, Effect, OneBecomes, Changed, RowsChanged, Sent, After}
 
 -- What an effect makes of each part, as its kinds say
-
-abbrev pub replaced : {A : Type 0} → (ℕ → A) → ℕ → A → ℕ → A
-replaced before index value other = if other == index then value else before other
 
 abbrev pub changed : {A : Type 0} → Change A → (ℕ → A) → ℕ → A
 changed Same before = before
@@ -16,7 +14,7 @@ changed (Becomes index value) before = replaced before index value
 
 abbrev pub rows_changed : {A : Type 0} → RowChange A → Table A → Table A
 rows_changed Kept before = before
-rows_changed (Turns index row) before = record { count = before.count; row = replaced before.row index row }
+rows_changed (RowBecomes index row) before = record { count = before.count; row = replaced before.row index row }
 rows_changed (Added row) before = record { count = suc before.count; row = replaced before.row before.count row }
 
 abbrev pub frames_of : Sending → List Frame
@@ -38,8 +36,8 @@ perform effect before = record {
 module _ {A : Type 0} where
   is_replaced : (before : ℕ → A) (index : ℕ) (value : A) → OneBecomes before (replaced before index value) index value
   is_replaced before index value = record {
-    here = ap (λ same. if same then value else before index) (eq-eqb index index refl);
-    elsewhere = λ other differs. ap (λ same. if same then value else before other) (ne_eqb other index differs);
+    here = replaced_here before index value;
+    elsewhere = replaced_elsewhere before index value;
   }
 
   is_changed : (change : Change A) (before : ℕ → A) → Changed change before (changed change before)
@@ -48,7 +46,7 @@ module _ {A : Type 0} where
 
   rows_are_changed : (change : RowChange A) (before : Table A) → RowsChanged change before (rows_changed change before)
   rows_are_changed Kept before = (refl, λ index. refl)
-  rows_are_changed (Turns index row) before = (refl, is_replaced before.row index row)
+  rows_are_changed (RowBecomes index row) before = (refl, is_replaced before.row index row)
   rows_are_changed (Added row) before = let added = is_replaced before.row before.count row in
       record { count = refl; here = added.here; elsewhere = λ other below. added.elsewhere other (omega arith) }
 

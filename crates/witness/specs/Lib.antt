@@ -1,1 +1,2 @@
+pub mod Majorities
 pub mod Witnesses

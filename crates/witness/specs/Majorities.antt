@@ -1,12 +1,12 @@
--- The majority rule: more than half of the places answer an operation, and as many freeze a group.
+-- The majority rule: more than half of the places answer an operation, and as many freeze a group. That two such sets share a place is a lemma, which is checked.
 use Rattle.std.proofs.Common.{◌≡◌, ℕ, zero, suc, ◌+◌, ◌*◌, ◌<◌, ◌≤◌, Bool, true, false, nat_lt, if◌then◌else◌, refl, ap, arith, List, ltb-true}
 use Rattle.protocol.specs.State.{Places, Content, Setting}
 
-abbrev one_if : Bool → ℕ
+abbrev pub one_if : Bool → ℕ
 one_if joined = if joined then 1 else 0
 
 -- how many of the places below the size are in the set
-abbrev count : ℕ → Places → ℕ
+abbrev pub count : ℕ → Places → ℕ
 count zero set = 0
 count (suc size) set = one_if (set size) + count size set
 
@@ -38,12 +38,12 @@ module _ (one other : Places) where
   pub majorities_share : (size : ℕ) → more_than_half size one ≡ true → more_than_half size other ≡ true → Shared size
   majorities_share size first second = overlap size (omega (arith, ltb-true size (2 * count size one) first, ltb-true size (2 * count size other) second))
 
+-- more than half answer and freeze; the first members and the first content
 abbrev pub majority_of : List ℕ → Content → Setting
 majority_of members content = record {
   answers = more_than_half;
   freezes = more_than_half;
   share = λ size answering freezing answers freezes. let (place, below, in_one, in_other) = majorities_share answering freezing size answers freezes in (place, in_one, in_other);
-  not_empty = λ size freezing freezes. let (place, below, in_it, again) = majorities_share freezing freezing size freezes freezes in (place, in_it);
   members = members;
   content = content;
 }
