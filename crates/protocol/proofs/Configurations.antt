@@ -7,10 +7,6 @@ use Rattle.protocol.proofs.Invariant.{LeftBelow, SoundProposal, SoundHeld, Invar
 use Rattle.protocol.proofs.Lasting.{quorum_map, genuine_lasts, old_or_new, old_or_new_or_same, acknowledged_before}
 
 module _ {setting : Setting} {h h' : History} (invariant : Invariant setting h) (step : Step setting h h') where
-  -- It was decided before, and facts grow.
-  pub first_is_decided_kept : h'.known (WasDecided (first_of setting))
-  first_is_decided_kept = step.grows (WasDecided (first_of setting)) invariant.first_is_decided
-
   -- A new decision is under a number that none was decided under.
   pub one_for_each_number_kept : (one other : Configuration) → h'.known (WasDecided one) → h'.known (WasDecided other) → one.number ≡ other.number → one ≡ other
   one_for_each_number_kept one other decided decided_other same_number =
@@ -48,7 +44,7 @@ module _ {setting : Setting} {h h' : History} (invariant : Invariant setting h) 
         left = quorum_map left_below_lasts old.left;
       }
 
-  -- Who held out a copy can acknowledge nothing above it, so nothing above the proposed one.
+  -- Who held out a copy has acknowledged no write of that number above it, so none above the proposed one.
   new_proposal_is_sound : (next : Configuration) → NewProposal setting h next → SoundProposal setting h next
   new_proposal_is_sound next new =
       record {

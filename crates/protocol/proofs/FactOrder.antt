@@ -22,7 +22,7 @@ TookEffectWith h request copy = ((moment : ℕ) × h.known (WasAnswered request 
 
 -- what holds of the facts at every point of a run
 pub record FactOrder (setting : Setting) (h : History) : Type 0 where
-  -- An answer has the opening copy, or one that a write wrote; and writes are told apart by their tags.
+  -- An answer has the first copy, or one that a write wrote; and writes are told apart by their tags.
   pub answers_are_genuine : (request : Request) (copy : Copy) (moment : ℕ) → h.known (WasAnswered request copy moment) → Genuine setting h copy
   pub tags_differ : (one other : Request) → h.known (WasStarted one) → h.known (WasStarted other) → one.writes ≡ true → other.writes ≡ true → one.copy.tag ≡ other.copy.tag → one ≡ other
   -- What was answered before another request started has no higher tag than that one, and a lower tag if that one is a write.

@@ -2,7 +2,7 @@
 use Rattle.std.proofs.Common.{◌≡◌, ℕ, suc, ◌+◌, ◌*◌, ◌<◌, ◌≤◌, Bool, true, false, ◌⊎◌, length}
 use Rattle.protocol.specs.State.{tag_of, Tag, Copy, Places, Configuration, Node, Status, Idle, Active, Frozen, Setting, first_of, node_at, primary, version_of}
 
--- what never changes of a read or a write; of a read, the copy says nothing
+-- What never changes of an operation. Only of a write does the copy say anything; and a regroup's request is never known to be started.
 pub record Request : Type 0 where
   pub operation : ℕ
   pub writes : Bool
@@ -41,7 +41,7 @@ pub record WrittenBy (h : History) (write : Request) (copy : Copy) : Type 0 wher
   pub writes : write.writes ≡ true
   pub same : write.copy ≡ copy
 
--- the opening copy, or one that a write wrote
+-- the first copy, or one that a write wrote
 abbrev pub Genuine : Setting → History → Copy → Type 0
 Genuine setting h copy = (copy ≡ (first_of setting).copy) ⊎ ((write : Request) × WrittenBy h write copy)
 
@@ -55,7 +55,7 @@ pub record AnsweredWrite (h : History) (number : ℕ) (tag : Tag) : Type 0 where
   pub under : write.configuration.number ≡ number
   pub same : copy.tag ≡ tag
 
--- some set of places of the configuration wins, and what is frame_says holds of the node at each place of it
+-- some set of places of the configuration wins, and what is said holds of the node at each place of it
 pub record Quorum (wins : ℕ → Places → Bool) (configuration : Configuration) (Each : ℕ → Type 0) : Type 0 where
   pub set : Places
   pub winning : wins (length configuration.members) set ≡ true

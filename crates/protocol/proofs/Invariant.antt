@@ -8,7 +8,7 @@ pub record LeftBelow (h : History) (number : ℕ) (tag : Tag) (node : ℕ) : Typ
   pub past : 2 * number < position (h.nodes node)
   pub below : (write : Request) → h.known (WasAcknowledged write node) → write.writes ≡ true → write.configuration.number ≡ number → write.copy.tag ≤ tag
 
--- A proposal follows a decided configuration, and a freezing set of that one can acknowledge nothing above the proposed tag.
+-- A proposal follows a decided configuration, and a freezing set of that one has left, and has acknowledged no write of its number above the proposed tag.
 pub record SoundProposal (setting : Setting) (h : History) (next : Configuration) : Type 0 where
   pub previous : Configuration
   pub decided : h.known (WasDecided previous)
@@ -17,7 +17,7 @@ pub record SoundProposal (setting : Setting) (h : History) (next : Configuration
   pub genuine : Genuine setting h next.copy
   pub left : Quorum setting.freezes previous (LeftBelow h previous.number next.copy.tag)
 
--- A copy that is held out is at least the opening one, and its node can acknowledge nothing above it.
+-- A copy that is held out is no lower than the opening one, and its node has acknowledged no write of that number above it, and never will.
 pub record SoundHeld (setting : Setting) (h : History) (configuration : Configuration) (node : ℕ) (copy : Copy) : Type 0 where
   pub above_opening : configuration.copy.tag ≤ copy.tag
   pub genuine : Genuine setting h copy
@@ -77,7 +77,6 @@ pub record LeftOut (h : History) (request : Request) (node : ℕ) : Type 0 where
   pub not_acknowledged : h.known (WasAcknowledged request node) → ⊥
 
 pub record Invariant (setting : Setting) (h : History) : Type 0 where
-  pub first_is_decided : h.known (WasDecided (first_of setting))
   -- One configuration is decided for each number.
   pub one_for_each_number : (one other : Configuration) → h.known (WasDecided one) → h.known (WasDecided other) → one.number ≡ other.number → one ≡ other
   pub decided_was_proposed : (configuration : Configuration) → h.known (WasDecided configuration) → (configuration ≡ first_of setting) ⊎ h.known (WasProposed configuration)

@@ -3,7 +3,7 @@ use Rattle.std.proofs.Common.{◌≡◌, ℕ, inl, sym, ◌∙◌, ap, arith}
 use Rattle.protocol.specs.State.{Copy, Configuration, Setting, first_of}
 use Rattle.protocol.proofs.History.{Request, Fact, WasStarted, WasAcknowledged, WasAnswered, WasHeld, WasProposed, WasDecided, History, Matches, Step}
 use Rattle.protocol.proofs.Invariant.{SoundNode, Invariant}
-use Rattle.protocol.proofs.Configurations.{first_is_decided_kept, one_for_each_number_kept, decided_was_proposed_kept, proposals_kept, held_kept}
+use Rattle.protocol.proofs.Configurations.{one_for_each_number_kept, decided_was_proposed_kept, proposals_kept, held_kept}
 use Rattle.protocol.proofs.NodesKept.{nodes_kept}
 use Rattle.protocol.proofs.RequestsKept.{acks_kept, requests_kept, tags_differ_kept}
 use Rattle.protocol.proofs.AnswersKept.{answers_kept}
@@ -12,7 +12,6 @@ use Rattle.protocol.proofs.LaterKept.{later_write_is_higher_kept, later_read_is_
 pub invariant_kept : (setting : Setting) (h h' : History) → Invariant setting h → Step setting h h' → Invariant setting h'
 invariant_kept setting h h' invariant step =
     record {
-      first_is_decided = first_is_decided_kept invariant step;
       one_for_each_number = one_for_each_number_kept invariant step;
       decided_was_proposed = decided_was_proposed_kept invariant step;
       proposals = proposals_kept invariant step;
@@ -29,7 +28,7 @@ invariant_kept setting h h' invariant step =
       openings_have_other_tags = openings_have_other_tags_kept invariant step;
     }
 
--- No fact is known but that the first configuration is decided; all nodes are in it, and hold the opening copy.
+-- No fact is known but that the first configuration is decided; all nodes are in it, and hold the first copy.
 pub record Opening (setting : Setting) (h : History) : Type 0 where
   pub first_is_decided : h.known (WasDecided (first_of setting))
   pub nothing_else : (fact : Fact) → h.known fact → fact ≡ WasDecided (first_of setting)
@@ -39,7 +38,7 @@ pub record Opening (setting : Setting) (h : History) : Type 0 where
   pub served : (node : ℕ) → (h.nodes node).served ≡ (first_of setting).copy
 
 module _ (setting : Setting) (h : History) (opening : Opening setting h) where
-  -- Every tag is the opening one, which is 0.
+  -- Every tag is the first one, which is 0.
   node_at_opening : (node : ℕ) → SoundNode setting h node
   node_at_opening node =
       record {
@@ -72,7 +71,6 @@ module _ (setting : Setting) (h : History) (opening : Opening setting h) where
   pub invariant_at_opening : Invariant setting h
   invariant_at_opening =
       record {
-        first_is_decided = opening.first_is_decided;
         one_for_each_number = λ one other decided other_decided same_number. is_first one decided ∙ sym (is_first other other_decided);
         decided_was_proposed = λ configuration decided. inl (is_first configuration decided);
         proposals = λ next proposed. cc (opening.nothing_else (WasProposed next) proposed);

@@ -116,7 +116,7 @@ module _ {setting : Setting} {h : History} (invariant : Invariant setting h) whe
       let same_previous : proposal.previous ≡ previous = invariant.one_for_each_number proposal.previous previous proposal.decided decided (omega (arith, proposal.follows)) in
       subst (λ c. Follows setting h c next) same_previous (record { opening_grows = proposal.opening_grows; left = proposal.left })
 
--- The first configuration has the opening copy, and what is proposed has a genuine one.
+-- The first configuration opens with the first copy, and what is proposed is genuine.
 pub decided_is_genuine : (setting : Setting) (h : History) → Invariant setting h → (configuration : Configuration) → h.known (WasDecided configuration) → Genuine setting h configuration.copy
 decided_is_genuine setting h invariant configuration decided = go (invariant.decided_was_proposed configuration decided)
   where

@@ -63,8 +63,8 @@ module _ {setting : Setting} {h h' : History} (invariant : Invariant setting h) 
       first_is_sound : SoundAnswer setting h first copy moment
       first_is_sound = invariant.answers first copy moment first_was_answered
 
-      first_is_decided : h.known (WasDecided first.configuration)
-      first_is_decided = (invariant.requests first first_is_sound.started).decided
+      configuration_is_decided : h.known (WasDecided first.configuration)
+      configuration_is_decided = (invariant.requests first first_is_sound.started).decided
 
       -- A new write's version is above all that its node serves.
       pub later_write_is_higher_kept : second.writes ≡ true → first.configuration.number ≡ second.configuration.number → version_of copy.tag < version_of second.copy.tag
@@ -78,7 +78,7 @@ module _ {setting : Setting} {h h' : History} (invariant : Invariant setting h) 
       -- The number after the second's was decided, so a freezing set had left the second's own. Its nodes have not acknowledged what starts only now.
       late_start_is_left_out : NewStart h h' second → second.configuration.number < first.configuration.number → Quorum setting.freezes second.configuration (LeftOut h' second)
       late_start_is_left_out new lower =
-          let (next, next_decided, next_number) = every_lower_number_is_decided invariant (suc second.configuration.number) first.configuration first_is_decided lower in
+          let (next, next_decided, next_number) = every_lower_number_is_decided invariant (suc second.configuration.number) first.configuration configuration_is_decided lower in
           let decided : h.known (WasDecided second.configuration) = rw new.under (invariant.nodes second.node).decided in
           quorum_map left_out (next_follows invariant second.configuration next decided next_decided next_number).left
         where
@@ -95,6 +95,7 @@ module _ {setting : Setting} {h h' : History} (invariant : Invariant setting h) 
           let past : 2 * second.configuration.number < position (h'.nodes node) = omega (arith, old.past, (step.node node).position_grows) in
           record { past = past; not_acknowledged = λ acknowledged. old.not_acknowledged (acknowledged_before step second node past acknowledged) }
 
+      -- A freezing set leaves it out when it starts, and from then on.
       pub late_starts_are_left_out_kept : second.configuration.number < first.configuration.number → Quorum setting.freezes second.configuration (LeftOut h' second)
       late_starts_are_left_out_kept lower =
           ⊎_elim (λ old. quorum_map left_out_lasts (invariant.late_starts_are_left_out first copy moment second old lower)) (λ new. late_start_is_left_out new lower) before_or_new
@@ -110,7 +111,7 @@ module _ {setting : Setting} {h h' : History} (invariant : Invariant setting h) 
       pub openings_have_other_tags_kept : second.writes ≡ true → (configuration : Configuration) → h'.known (WasDecided configuration) → configuration.number ≤ first.configuration.number
           → configuration.copy.tag ≢ second.copy.tag
       openings_have_other_tags_kept writes configuration decided below =
-          let old_decided = decided_before configuration first.configuration decided first_is_decided below in
+          let old_decided = decided_before configuration first.configuration decided configuration_is_decided below in
           ⊎_elim (λ old. invariant.openings_have_other_tags first copy moment second old writes configuration old_decided below)
           (λ (new : NewStart h h' second). no_genuine_copy_has_new_tag invariant step configuration.copy second (decided_is_genuine setting h invariant configuration old_decided) new writes)
           before_or_new

@@ -1,3 +1,5 @@
+-- The proof that the law holds, in the order to read it.
+
 -- The facts of a run, what holds of them at every point, and that a step keeps it
 pub mod History
 pub mod Invariant

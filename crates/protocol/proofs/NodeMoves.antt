@@ -132,7 +132,7 @@ module _ {setting : Setting} {Earlier : Fact → Type 0} {before : System} (soun
       update_stands = record {
         request = sound.request proposal;
         at = λ operation names. absurd (not_some operation names);
-        says = (inl (sound.proposals.decided (before.nodes node).number proposal is_decided.decision is_decided.is_there is_decided.follows), omega (arith, is_decided.follows));
+        says = (inl (sound.proposals.decided (before.nodes node).number proposal is_decided), omega (arith, is_decided.follows));
       }
         where
           not_some : (operation : ℕ) → None ≡ Some operation → ⊥

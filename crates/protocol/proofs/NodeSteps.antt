@@ -7,10 +7,13 @@ use Rattle.protocol.proofs.Lasting.{off_duty_at_most_1}
 use Rattle.protocol.proofs.History.{WasDecided, History, off_duty, position, Genuine, Matches, OwnAnswer, NodeStep}
 
 -- the newer of two copies is one of them, by their tags
-pub newer_is : (old new : Copy) → ((newer old new ≡ old) × (new.tag ≤ old.tag)) ⊎ ((newer old new ≡ new) × (old.tag < new.tag))
+abbrev pub NewerIs : Copy → Copy → Type 0
+NewerIs old new = ((newer old new ≡ old) × (new.tag ≤ old.tag)) ⊎ ((newer old new ≡ new) × (old.tag < new.tag))
+
+pub newer_is : (old new : Copy) → NewerIs old new
 newer_is old new = go (nat_lt old.tag new.tag) refl
   where
-    go : (lower : Bool) → nat_lt old.tag new.tag ≡ lower → ((newer old new ≡ old) × (new.tag ≤ old.tag)) ⊎ ((newer old new ≡ new) × (old.tag < new.tag))
+    go : (lower : Bool) → nat_lt old.tag new.tag ≡ lower → NewerIs old new
     go true lower = inr (rw lower refl, ltb-true old.tag new.tag lower)
     go false higher = inl (rw higher refl, ltb-false old.tag new.tag higher)
 
@@ -18,7 +21,7 @@ newer_is old new = go (nat_lt old.tag new.tag) refl
 pub newer_is_above : (old new : Copy) → (old.tag ≤ (newer old new).tag) × (new.tag ≤ (newer old new).tag)
 newer_is_above old new = go (newer_is old new)
   where
-    go : ((newer old new ≡ old) × (new.tag ≤ old.tag)) ⊎ ((newer old new ≡ new) × (old.tag < new.tag)) → (old.tag ≤ (newer old new).tag) × (new.tag ≤ (newer old new).tag)
+    go : NewerIs old new → (old.tag ≤ (newer old new).tag) × (new.tag ≤ (newer old new).tag)
     go (inl (is_old, above)) = (omega (arith, ap (λ c. c.tag) is_old), omega (arith, ap (λ c. c.tag) is_old))
     go (inr (is_new, below)) = (omega (arith, ap (λ c. c.tag) is_new), omega (arith, ap (λ c. c.tag) is_new))
 
@@ -26,7 +29,7 @@ newer_is_above old new = go (newer_is old new)
 pub newer_is_genuine : (setting : Setting) (h : History) (old new : Copy) → Genuine setting h new → (newer old new ≡ old) ⊎ Genuine setting h (newer old new)
 newer_is_genuine setting h old new genuine = go (newer_is old new)
   where
-    go : ((newer old new ≡ old) × (new.tag ≤ old.tag)) ⊎ ((newer old new ≡ new) × (old.tag < new.tag)) → (newer old new ≡ old) ⊎ Genuine setting h (newer old new)
+    go : NewerIs old new → (newer old new ≡ old) ⊎ Genuine setting h (newer old new)
     go (inl (is_old, above)) = inl is_old
     go (inr (is_new, below)) = inr (subst (λ c. Genuine setting h c) (sym is_new) genuine)
 

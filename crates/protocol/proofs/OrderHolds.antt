@@ -1,7 +1,7 @@
 -- The order law, from what is known at two points of a run.
 use Rattle.std.proofs.Common.{◌≡◌, ℕ, ◌<◌, ◌≤◌, ◌≢◌, if◌then◌else◌, ◌⊎◌, sym, ap, ◌∙◌, subst, inl, inr, arith}
 use Rattle.std.proofs.lemmas.Bool.{cases_lt}
-use Rattle.protocol.specs.State.{Kind, Read, Write, Regroup, System, Setting, first_of, first_tag}
+use Rattle.protocol.specs.State.{Kind, Read, Write, Regroup, System, Setting, first_of, first_tag, tag_of, version_of}
 use Rattle.protocol.specs.Moves.{Reached, Later}
 use Rattle.protocol.specs.Law.{tag_in, IsAnswered, IsWrite, IsAnsweredRead, TookEffect, AnsweredBefore, OrderLaw, OrderHolds, TagsCompare}
 use Rattle.protocol.specs.Line.{Linearizable}
@@ -41,7 +41,7 @@ module _ {setting : Setting} {Earlier : Fact → Type 0} {system : System} (soun
   read_stands : (read : ℕ) → IsAnsweredRead system read → ReadStands h (system.operations.row read) (sound.request read)
   read_stands read is_read = subst (λ k. StandsAs setting h (system.operations.row read) (sound.request read) k) is_read.read (sound.rows read is_read.answered.is_started).by_kind
 
-  -- (a) A genuine copy is the opening one or is found in the row of a write.
+  -- (a) A genuine copy is the first one, or is found in the row of a write.
   pub reads : (read : ℕ) → IsAnsweredRead system read
       → ((system.operations.row read).copy ≡ (first_of setting).copy) ⊎ ((write : ℕ) × IsWrite system write × ((system.operations.row write).copy ≡ (system.operations.row read).copy))
   reads read is_read = go (order.answers_are_genuine (sound.request read) (system.operations.row read).copy (system.operations.row read).answer (was_answered read is_read.answered))
@@ -54,6 +54,7 @@ module _ {setting : Setting} {Earlier : Fact → Type 0} {system : System} (soun
           let is_write : IsWrite system found.operation = record { is_started = found.is_started; write = found.kind ∙ ap (λ w. if w then Write else Read) written.writes } in
           inr (found.operation, is_write, sym (write_stands found.operation is_write).copy ∙ ap (λ r. r.copy) found.here ∙ written.same)
 
+  -- Two writes of one tag are one request, which knows its row.
   pub tags_differ : (one other : ℕ) → IsWrite system one → IsWrite system other → tag_in system one ≡ tag_in system other → one ≡ other
   tags_differ one other is_write other_is_write same =
       let stands = write_stands one is_write in
@@ -61,10 +62,20 @@ module _ {setting : Setting} {Earlier : Fact → Type 0} {system : System} (soun
       let same_request = order.tags_differ (sound.request one) (sound.request other) stands.started other_stands.started stands.writes other_stands.writes (omega (arith, ap (λ c. c.tag) stands.copy, ap (λ c. c.tag) other_stands.copy, same)) in
       sym (sound.rows one is_write.is_started).same_operation ∙ ap (λ r. r.operation) same_request ∙ (sound.rows other other_is_write.is_started).same_operation
 
+  -- A write is above the opening tag of its configuration, so above 0.
   pub tags_are_above : (write : ℕ) → IsWrite system write → first_tag < tag_in system write
   tags_are_above write is_write =
       let stands = write_stands write is_write in
       omega (arith, ap (λ c. c.tag) stands.copy, ((sound.invariant.requests (sound.request write) stands.started).write stands.writes).above_opening)
+
+  -- A write's node gave its version out, and is below 32.
+  pub tags_name_nodes : (write : ℕ) → IsWrite system write → ((system.operations.row write).node < 32) × (version : ℕ) × (tag_in system write ≡ tag_of version (system.operations.row write).node)
+  tags_name_nodes write is_write =
+      let stands = write_stands write is_write in
+      let by_node = ((sound.invariant.requests (sound.request write) stands.started).write stands.writes).by_node in
+      let same_node = (sound.rows write is_write.is_started).same_node in
+      let tag = ap (λ c. c.tag) stands.copy in
+      (omega (arith, by_node, same_node), version_of (tag_in system write), omega (arith, by_node, same_node, tag))
 
   -- (b) What took effect is an answer or was returned, as a fact.
   took_effect : (operation : ℕ) → TookEffect system operation → TookEffectWith h (sound.request operation) (system.operations.row operation).copy
@@ -152,6 +163,7 @@ module _ (setting : Setting) (early late : System) (reached : Reached setting ea
     reads = reads sound_late;
     tags_differ = tags_differ sound_late;
     tags_are_above = tags_are_above sound_late;
+    tags_name_nodes = tags_name_nodes sound_late;
     never_higher = λ first second before effect. not_higher sound_late first second (answered first second before effect) effect (in_order first second before effect);
     writes_are_higher = λ first second before effect. write_is_higher sound_late first second (answered first second before effect) effect (in_order first second before effect);
     same_members = same_members sound_early sound_late;

@@ -50,10 +50,10 @@ module _ {setting : Setting} {Earlier : Fact → Type 0} {before : System} (soun
               follows = ap (λ c. c.number) (sym (change.proposals.1 p)) ∙ decides.follows;
             })
 
-    decided_taken : (fact : Fact) → Justified setting (history sound) (history_after sound after fact) fact
+    decision_shown : (fact : Fact) → Justified setting (history sound) (history_after sound after fact) fact
         → ((new : Request) → WasStarted new ≡ fact → ⊥)
         → ProposalsStand setting after (history_after sound after fact) → ShownMove setting Earlier before after sound
-    decided_taken fact justified no_start stand = record {
+    decision_shown fact justified no_start stand = record {
       effect = proposal_decided number proposal;
       change = change;
       fact = fact;
@@ -68,54 +68,55 @@ module _ {setting : Setting} {Earlier : Fact → Type 0} {before : System} (soun
       proposals = stand;
     }
 
-    pub decide : ShownMove setting Earlier before after sound
-    decide = go (dec_lt proposal before.proposals.count) (ℕ_discrete (before.proposals.row proposal).number (suc number))
+    -- The decision is on no proposal that is there and follows.
+    decides_on_none : (IsDecided after number proposal → ⊥) → ShownMove setting Earlier before after sound
+    decides_on_none not_decided =
+        decision_shown NoFact tt (λ new same. cc)
+        (proposals_stand sound after sound.joined NoFact last (λ p there is_new. absurd (omega (arith, change.proposals.0))) (λ n p decides. new_decisions n p decides (old_or_this n p decides))
+        (λ c same. absurd cc))
+      where
+        new_decisions : (n p : ℕ) → IsDecided after n p → IsDecided before n p ⊎ ((n ≡ number) × (p ≡ proposal)) → IsDecided before n p ⊎ with_fact sound.known NoFact (WasDecided (after.proposals.row p))
+        new_decisions n p decides (inl old) = inl old
+        new_decisions n p decides (inr (is_number, is_proposal)) = absurd (not_decided (subst (λ k. IsDecided after k proposal) is_number (subst (λ k. IsDecided after n k) is_proposal decides)))
+
+    -- It is on a proposal that is there and follows, whose configuration is decided by that.
+    decides_on_this : proposal < before.proposals.count → (before.proposals.row proposal).number ≡ suc number → ShownMove setting Earlier before after sound
+    decides_on_this there follows =
+        decision_shown (WasDecided configuration)
+        (record {
+          proposed = sound.proposals.proposed proposal there;
+          none_yet = λ other decided same. none_after sound number (λ p decision is_there. cc) other decided (same ∙ follows);
+        })
+        (λ new same. cc)
+        (proposals_stand sound after sound.joined (WasDecided configuration) last (λ p is_there is_new. absurd (omega (arith, change.proposals.0)))
+        (λ n p decides. new_decisions n p (old_or_this n p decides)) found)
       where
         configuration : Configuration
         configuration = before.proposals.row proposal
 
-        -- the decision is on no proposal that is there and follows
-        on_none : (IsDecided after number proposal → ⊥) → ShownMove setting Earlier before after sound
-        on_none not_decides =
-            decided_taken NoFact tt (λ new same. cc)
-            (proposals_stand sound after sound.joined NoFact last (λ p there is_new. absurd (omega (arith, change.proposals.0))) (λ n p decides. new_decisions n p decides (old_or_this n p decides))
-            (λ c same. absurd cc))
-          where
-            new_decisions : (n p : ℕ) → IsDecided after n p → IsDecided before n p ⊎ ((n ≡ number) × (p ≡ proposal)) → IsDecided before n p ⊎ with_fact sound.known NoFact (WasDecided (after.proposals.row p))
-            new_decisions n p decides (inl old) = inl old
-            new_decisions n p decides (inr (is_number, is_proposal)) = absurd (not_decides (subst (λ k. IsDecided after k proposal) is_number (subst (λ k. IsDecided after n k) is_proposal decides)))
+        new_decisions : (n p : ℕ) → IsDecided before n p ⊎ ((n ≡ number) × (p ≡ proposal)) → IsDecided before n p ⊎ with_fact sound.known (WasDecided configuration) (WasDecided (after.proposals.row p))
+        new_decisions n p (inl old) = inl old
+        new_decisions n p (inr (is_number, is_proposal)) = inr (inr (ap WasDecided (change.proposals.1 p ∙ ap before.proposals.row is_proposal)))
 
-        on_this : proposal < before.proposals.count → configuration.number ≡ suc number → ShownMove setting Earlier before after sound
-        on_this there follows =
-            decided_taken (WasDecided configuration)
-            (record {
-              proposed = sound.proposals.proposed proposal there;
-              none_yet = λ other decided same. none_after sound number (λ p decision is_there. cc) other decided (same ∙ follows);
-            })
-            (λ new same. cc)
-            (proposals_stand sound after sound.joined (WasDecided configuration) last (λ p is_there is_new. absurd (omega (arith, change.proposals.0)))
-            (λ n p decides. new_decisions n p (old_or_this n p decides)) found)
-          where
-            new_decisions : (n p : ℕ) → IsDecided before n p ⊎ ((n ≡ number) × (p ≡ proposal)) → IsDecided before n p ⊎ with_fact sound.known (WasDecided configuration) (WasDecided (after.proposals.row p))
-            new_decisions n p (inl old) = inl old
-            new_decisions n p (inr (is_number, is_proposal)) = inr (inr (ap WasDecided (change.proposals.1 p ∙ ap before.proposals.row is_proposal)))
+        found : (c : Configuration) → WasDecided c ≡ WasDecided configuration → DecidedIn after c
+        found c same =
+            let is_this : c ≡ configuration = cc in
+            record {
+              number = number;
+              proposal = proposal;
+              follows = ap (λ c. c.number) is_this ∙ follows;
+              decision = change.decisions.here;
+              is_there = omega (arith, there, change.proposals.0);
+              here = change.proposals.1 proposal ∙ sym is_this;
+            }
 
-            found : (c : Configuration) → WasDecided c ≡ WasDecided configuration → DecidedIn after c
-            found c same =
-                let is_this : c ≡ configuration = cc in
-                record {
-                  number = number;
-                  proposal = proposal;
-                  follows = ap (λ c. c.number) is_this ∙ follows;
-                  decision = change.decisions.here;
-                  is_there = omega (arith, there, change.proposals.0);
-                  here = change.proposals.1 proposal ∙ sym is_this;
-                }
-
-        go : Dec (proposal < before.proposals.count) → Dec (configuration.number ≡ suc number) → ShownMove setting Earlier before after sound
-        go (yes there) (yes follows) = on_this there follows
-        go (yes there) (no other) = on_none (λ decides. other (sym (ap (λ c. c.number) (change.proposals.1 proposal)) ∙ decides.follows))
-        go (no missing) _ = on_none (λ decides. missing (omega (arith, decides.is_there, change.proposals.0)))
+    pub decide : ShownMove setting Earlier before after sound
+    decide = go (dec_lt proposal before.proposals.count) (ℕ_discrete (before.proposals.row proposal).number (suc number))
+      where
+        go : Dec (proposal < before.proposals.count) → Dec ((before.proposals.row proposal).number ≡ suc number) → ShownMove setting Earlier before after sound
+        go (yes there) (yes follows) = decides_on_this there follows
+        go (yes there) (no other) = decides_on_none (λ decides. other (sym (ap (λ c. c.number) (change.proposals.1 proposal)) ∙ decides.follows))
+        go (no missing) _ = decides_on_none (λ decides. missing (omega (arith, decides.is_there, change.proposals.0)))
 
 -- Proposing takes two steps: the configuration is known to be proposed first, while the system is as it was; then its row is added. If the number was decided on that row in advance, the configuration is decided by that.
 module _ {setting : Setting} {Earlier : Fact → Type 0} {before : System} {operation : ℕ} (proposes : Proposes setting before operation) (sound : Sound setting Earlier before) where
@@ -181,12 +182,12 @@ module _ {setting : Setting} {Earlier : Fact → Type 0} {before : System} {oper
     added_last : ProposalsLast before after
     added_last = record { count = omega (arith, change.proposals.count); rows = change.proposals.elsewhere; decisions = λ number proposal decision. change.decisions number ∙ decision }
 
-    added_taken : (fact : Fact) → Justified setting (history sound) (history_after sound after fact) fact
+    proposal_shown : (fact : Fact) → Justified setting (history sound) (history_after sound after fact) fact
         → ((new : Request) → WasStarted new ≡ fact → ⊥)
         → ((number proposal : ℕ) → IsDecided after number proposal → IsDecided before number proposal ⊎ with_fact sound.known fact (WasDecided (after.proposals.row proposal)))
         → ((configuration : Configuration) → WasDecided configuration ≡ fact → DecidedIn after configuration)
         → ShownMove setting Earlier before after sound
-    added_taken fact justified no_start new_decisions found = record {
+    proposal_shown fact justified no_start new_decisions found = record {
       effect = regroup_proposed before operation;
       change = change;
       fact = fact;
@@ -227,7 +228,7 @@ module _ {setting : Setting} {Earlier : Fact → Type 0} {before : System} {oper
 
     -- nobody decided on the new row in advance
     not_in_advance : (before.decisions row.number ≡ Some before.proposals.count → ⊥) → ShownMove setting Earlier before after sound
-    not_in_advance none = added_taken NoFact tt (λ new same. cc) (λ number proposal decides. go number proposal (old_or_in_advance number proposal decides)) (λ c same. absurd cc)
+    not_in_advance none = proposal_shown NoFact tt (λ new same. cc) (λ number proposal decides. go number proposal (old_or_in_advance number proposal decides)) (λ c same. absurd cc)
       where
         go : (number proposal : ℕ) → IsDecided before number proposal ⊎ ((before.decisions row.number ≡ Some before.proposals.count) × (after.proposals.row proposal ≡ next))
             → IsDecided before number proposal ⊎ with_fact sound.known NoFact (WasDecided (after.proposals.row proposal))
@@ -237,7 +238,7 @@ module _ {setting : Setting} {Earlier : Fact → Type 0} {before : System} {oper
     -- somebody did
     in_advance : before.decisions row.number ≡ Some before.proposals.count → ShownMove setting Earlier before after sound
     in_advance decision =
-        added_taken (WasDecided next) (record { proposed = known_as_proposed; none_yet = none_after sound row.number (λ proposal other there. undecided proposal other there) }) (λ new same. cc)
+        proposal_shown (WasDecided next) (record { proposed = known_as_proposed; none_yet = none_after sound row.number (λ proposal other there. undecided proposal other there) }) (λ new same. cc)
         (λ number proposal decides. go number proposal (old_or_in_advance number proposal decides)) found
       where
         undecided : (proposal : ℕ) → before.decisions row.number ≡ Some proposal → proposal < before.proposals.count → ⊥
@@ -260,8 +261,8 @@ module _ {setting : Setting} {Earlier : Fact → Type 0} {before : System} {oper
               here = change.proposals.here ∙ sym is_next;
             }
 
-    added : ShownMove setting Earlier before after sound
-    added = go (before.decisions row.number) refl
+    row_is_added : ShownMove setting Earlier before after sound
+    row_is_added = go (before.decisions row.number) refl
       where
         go : (decision : Option ℕ) → before.decisions row.number ≡ decision → ShownMove setting Earlier before after sound
         go None none = not_in_advance (λ some. cc)
@@ -271,9 +272,10 @@ module _ {setting : Setting} {Earlier : Fact → Type 0} {before : System} {oper
             at (yes it) = in_advance (some ∙ ap Some it)
             at (no other) = not_in_advance (λ advance. other (same_value proposal before.proposals.count (sym some ∙ advance)))
 
+-- First the configuration is known to be proposed, then its row is added.
 pub propose : {setting : Setting} {Earlier : Fact → Type 0} {before after : System} {operation : ℕ} → Proposes setting before operation → Sound setting Earlier before → After (regroup_proposed before operation) before after
     → Sound setting Earlier after
 unfolding proposed_first
 propose proposes sound change =
     let first = sound_after (proposed_first proposes sound) in
-    sound_after (added proposes first (fact_is_known (proposed_first proposes sound)) change)
+    sound_after (row_is_added proposes first (fact_is_known (proposed_first proposes sound)) change)

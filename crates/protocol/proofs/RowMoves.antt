@@ -8,7 +8,7 @@ use Rattle.protocol.proofs.History.{Request, Fact, WasStarted, WasAcknowledged, 
 use Rattle.protocol.proofs.Invariant.{SoundHeld}
 use Rattle.protocol.proofs.Lasting.{genuine_lasts}
 use Rattle.protocol.proofs.Standing.{with_fact, history, history_after, ReadStands, WriteStands, RegroupStands, StandsAs, RowStands, Sound, held_below_lasts, row_lasts}
-use Rattle.protocol.proofs.NodeSteps.{newer_is, newer_is_above, keeps_place}
+use Rattle.protocol.proofs.NodeSteps.{NewerIs, newer_is, newer_is_above, keeps_place}
 use Rattle.protocol.proofs.SoundAfter.{ShownMove}
 use Rattle.protocol.proofs.Shared.{plain_move, not_both, frame_says, joined_is}
 
@@ -200,9 +200,7 @@ module _ {setting : Setting} {Earlier : Fact → Type 0} {before : System} (soun
       answer : Copy
       answer = (before.operations.row operation).copy
 
-      go : ((newer (before.nodes receiver).served answer ≡ (before.nodes receiver).served) × (answer.tag ≤ (before.nodes receiver).served.tag))
-          ⊎ ((newer (before.nodes receiver).served answer ≡ answer) × ((before.nodes receiver).served.tag < answer.tag))
-          → (newer (before.nodes receiver).served answer ≡ (before.nodes receiver).served)
+      go : NewerIs (before.nodes receiver).served answer → (newer (before.nodes receiver).served answer ≡ (before.nodes receiver).served)
           ⊎ OwnAnswer (history sound) (history_after sound after (WasAnswered (sound.request operation) answer (suc before.moment))) receiver (newer (before.nodes receiver).served answer)
       go (inl (same, above)) = inl same
       go (inr (is_new, below)) =
@@ -309,7 +307,7 @@ module _ {setting : Setting} {Earlier : Fact → Type 0} {before : System} (soun
       of_others : (other : ℕ) → (before.operations.row operation).set other ≡ true → HeldBelow (history sound) configuration new.copy.tag (node_at configuration.members other)
       of_others other was_in = let held = old.each other was_in in record { copy = held.copy; held = held.held; below = omega (arith, held.below, others_below other was_in) }
 
-  -- A copy is held out that is the first, or higher than the others: it becomes the regroup's. Who holds out a copy has a genuine one that is no lower than the opening copy.
+  -- A copy is the first that is held out to a regroup, or higher than the others: it becomes the regroup's. Who holds out a copy has a genuine one that is no lower than the opening copy.
   pub deliver_held : {receiver sender number operation place : ℕ} {copy : Copy} → UnderWay (Held receiver sender number operation copy) before
       → Counts before Regroup receiver sender number operation place → FirstOrHigher (before.operations.row operation) copy
       → After (held_taken before operation place copy) before after

@@ -20,7 +20,7 @@ answer_stays_after : (early between late : System) (operation : ℕ) → AnswerS
 answer_stays_after early between late operation so_far rows = grind (arith, rows.old operation)
 
 pub requests_stay : (setting : Setting) (early late : System) → Later setting early late → (operation : ℕ) → operation < early.operations.count → RequestStays early late operation
-requests_stay setting early late Now operation started = (started, record { kind = refl; node = refl; number = refl; start = refl; written = λ write. refl })
+requests_stay setting early late Now operation started = (started, record { kind = refl; node = refl; number = refl; members = refl; start = refl; written = λ write. refl })
 requests_stay setting early late (AfterMove {between} later move) operation started =
     request_stays_after early between late operation (requests_stay setting early between later operation started) (rows_move setting between late move)
 

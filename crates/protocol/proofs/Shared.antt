@@ -44,7 +44,7 @@ not_both value is_true is_false = let z : ◌≡◌ {A = ℕ} 0 1 = cc in omega 
 pub not_started : {system : System} {request_of : ℕ → Request} (fact : Fact) → is_start fact ≡ false → (request : Request) → WasStarted request ≡ fact → FoundIn system request_of request
 not_started fact no_start request same = absurd (not_both (is_start fact) (sym (ap is_start same)) no_start)
 
--- A frame that is under way names a row, and what it says is frame_says of that row's request.
+-- A frame that is under way names a row, and what it says is said of that row's request.
 pub frame_says : {setting : Setting} {Earlier : Fact → Type 0} {before : System} (sound : Sound setting Earlier before) (frame : Frame) (operation : ℕ) → named frame ≡ Some operation → UnderWay frame before
     → (operation < before.operations.count) × Says (history_of before sound.joined sound.known) frame (sound.request operation)
 frame_says {before = before} sound frame operation names there =
@@ -52,7 +52,7 @@ frame_says {before = before} sound frame operation names there =
     let (is_started, here) = stands.at operation names in
     (is_started, subst (λ request. Says (history_of before sound.joined sound.known) frame request) (sym here) stands.says)
 
--- A frame stands if what it says is frame_says of the request of the row that it names.
+-- A frame stands if what it says is said of the request of the row that it names.
 pub frame_stands : (h : History) (request_of : ℕ → Request) (count : ℕ) (frame : Frame) (operation : ℕ) (request : Request) → named frame ≡ Some operation → operation < count
     → request_of operation ≡ request → Says h frame request → FrameStands h request_of count frame
 frame_stands h request_of count frame operation request names is_started here says = record { request = request; at = at; says = says }
@@ -80,6 +80,21 @@ pub record ProposalsLast (before after : System) : Type 0 where
   pub decisions : (number proposal : ℕ) → before.decisions number ≡ Some proposal → after.decisions number ≡ Some proposal
 
 module _ {setting : Setting} {Earlier : Fact → Type 0} {before : System} (sound : Sound setting Earlier before) (after : System) (joined : ℕ → Configuration) (new : Fact) where
+  -- What was decided in the system is decided in it still.
+  still_decided_in : ProposalsLast before after → (configuration : Configuration) → (configuration ≡ first_of setting) ⊎ DecidedIn before configuration
+      → (configuration ≡ first_of setting) ⊎ DecidedIn after configuration
+  still_decided_in last configuration (inl first) = inl first
+  still_decided_in last configuration (inr old) =
+      inr
+      (record {
+        number = old.number;
+        proposal = old.proposal;
+        follows = old.follows;
+        decision = last.decisions old.number old.proposal old.decision;
+        is_there = omega (arith, old.is_there, last.count);
+        here = last.rows old.proposal old.is_there ∙ old.here;
+      })
+
   -- Proposals stand after a move if they last, a new one is known to be proposed, and a new decision to be decided.
   pub proposals_stand : ProposalsLast before after
       → ((proposal : ℕ) → proposal < after.proposals.count → before.proposals.count ≤ proposal → with_fact sound.known new (WasProposed (after.proposals.row proposal)))
@@ -88,7 +103,7 @@ module _ {setting : Setting} {Earlier : Fact → Type 0} {before : System} (soun
       → ProposalsStand setting after (history_of after joined (with_fact sound.known new))
   proposals_stand last new_rows new_decisions new_found = record {
     proposed = λ proposal there. proposed proposal there (dec_lt proposal before.proposals.count);
-    decided = λ number proposal decision there follows. decided number proposal (new_decisions number proposal (record { decision = decision; is_there = there; follows = follows }));
+    decided = λ number proposal decides. decided number proposal (new_decisions number proposal decides);
     back = back;
   }
     where
@@ -98,24 +113,10 @@ module _ {setting : Setting} {Earlier : Fact → Type 0} {before : System} (soun
 
       decided : (number proposal : ℕ) → IsDecided before number proposal ⊎ with_fact sound.known new (WasDecided (after.proposals.row proposal)) → with_fact sound.known new (WasDecided (after.proposals.row proposal))
       decided number proposal (inr known) = known
-      decided number proposal (inl old) =
-          inl (subst (λ c. sound.known (WasDecided c)) (sym (last.rows proposal old.is_there)) (sound.proposals.decided number proposal old.decision old.is_there old.follows))
-
-      found : (configuration : Configuration) → (configuration ≡ first_of setting) ⊎ DecidedIn before configuration → (configuration ≡ first_of setting) ⊎ DecidedIn after configuration
-      found configuration (inl first) = inl first
-      found configuration (inr old) =
-          inr
-          (record {
-            number = old.number;
-            proposal = old.proposal;
-            follows = old.follows;
-            decision = last.decisions old.number old.proposal old.decision;
-            is_there = omega (arith, old.is_there, last.count);
-            here = last.rows old.proposal old.is_there ∙ old.here;
-          })
+      decided number proposal (inl old) = inl (subst (λ c. sound.known (WasDecided c)) (sym (last.rows proposal old.is_there)) (sound.proposals.decided number proposal old))
 
       back : (configuration : Configuration) → with_fact sound.known new (WasDecided configuration) → (configuration ≡ first_of setting) ⊎ DecidedIn after configuration
-      back configuration (inl known) = found configuration (sound.proposals.back configuration known)
+      back configuration (inl known) = still_decided_in last configuration (sound.proposals.back configuration known)
       back configuration (inr is_new) = inr (new_found configuration is_new)
 
   -- So they do where none is new, and nothing is decided.

@@ -13,7 +13,7 @@ abbrev pub NodesOwed : Setting → History → History → Change Node → Type 
 NodesOwed setting h h' Same = (node : ℕ) → h'.joined node ≡ h.joined node
 NodesOwed setting h h' (Becomes node new) = ((other : ℕ) → other ≢ node → h'.joined other ≡ h.joined other) × NodeStep setting h h' node
 
--- What a move shows of the rows: one that turns keeps its kind, and it stands for its request; so does one that is added.
+-- What a move shows of the rows: one that changes keeps its kind, and it stands for its request; so does one that is added.
 abbrev pub RowsOwed : Setting → System → History → (ℕ → Request) → RowChange Operation → Type 0
 RowsOwed setting before h' request_of Kept = Unit {0}
 RowsOwed setting before h' request_of (RowBecomes index row) = (row.kind ≡ (before.operations.row index).kind) × RowStands setting h' index row (request_of index)
@@ -49,20 +49,20 @@ tick_grows : (ticks : Bool) (moment : ℕ) → moment ≤ (if ticks then suc mom
 tick_grows true moment = omega arith
 tick_grows false moment = omega arith
 
-module _ {setting : Setting} {Earlier : Fact → Type 0} {before after : System} {sound : Sound setting Earlier before} (taken : ShownMove setting Earlier before after sound) where
+module _ {setting : Setting} {Earlier : Fact → Type 0} {before after : System} {sound : Sound setting Earlier before} (shown : ShownMove setting Earlier before after sound) where
   abbrev h : History
   h = history_of before sound.joined sound.known
 
   abbrev h' : History
-  h' = history_of after taken.joined (with_fact sound.known taken.fact)
+  h' = history_of after shown.joined (with_fact sound.known shown.fact)
 
   -- the moment stays or is raised by one
   moment_grows : before.moment ≤ after.moment
-  moment_grows = omega (arith, taken.change.moment, tick_grows taken.effect.ticks before.moment)
+  moment_grows = omega (arith, shown.change.moment, tick_grows shown.effect.ticks before.moment)
 
   -- the node that changes takes the step that was shown, the others stay
   node_steps : (node : ℕ) → NodeStep setting h h' node
-  node_steps node = go taken.effect.node taken.change.nodes taken.nodes
+  node_steps node = go shown.effect.node shown.change.nodes shown.nodes
     where
       go : (change : Change Node) → Changed change before.nodes after.nodes → NodesOwed setting h h' change → NodeStep setting h h' node
       go Same same owed = unchanged_node_steps setting h h' sound.invariant node (same node) (owed node)
@@ -72,19 +72,20 @@ module _ {setting : Setting} {Earlier : Fact → Type 0} {before after : System}
           at (yes it) = subst (λ n. NodeStep setting h h' n) (sym it) owed.1
           at (no other) = unchanged_node_steps setting h h' sound.invariant node (one.elsewhere node other) (owed.0 node other)
 
+  -- The one new fact is justified, and each node takes a step.
   step : Step setting h h'
   step = record {
-    fact = taken.fact;
+    fact = shown.fact;
     grows = λ fact known. inl known;
     only = λ fact known. known;
-    justified = taken.justified;
+    justified = shown.justified;
     moment_grows = moment_grows;
     node = node_steps;
   }
 
-  -- no row is taken away
+  -- no row is shown away
   count_grows : before.operations.count ≤ after.operations.count
-  count_grows = go taken.effect.operation taken.change.operations
+  count_grows = go shown.effect.operation shown.change.operations
     where
       go : (change : RowChange Operation) → RowsChanged change before.operations after.operations → before.operations.count ≤ after.operations.count
       go Kept kept = omega (arith, kept.0)
@@ -93,37 +94,38 @@ module _ {setting : Setting} {Earlier : Fact → Type 0} {before after : System}
 
   -- an old row that is as it was stands for its old request
   row_stays : (index : ℕ) → index < before.operations.count → after.operations.row index ≡ before.operations.row index
-      → RowStands setting h' index (after.operations.row index) (taken.request index)
+      → RowStands setting h' index (after.operations.row index) (shown.request index)
   row_stays index old same =
-      subst₂ (λ row request. RowStands setting h' index row request) (sym same) (sym (taken.requests_kept index old))
+      subst₂ (λ row request. RowStands setting h' index row request) (sym same) (sym (shown.requests_kept index old))
       (row_lasts h h' (λ fact known. inl known) setting index (before.operations.row index) (sound.request index) (sound.rows index old))
 
-  rows : (index : ℕ) → index < after.operations.count → RowStands setting h' index (after.operations.row index) (taken.request index)
-  rows index there = go taken.effect.operation taken.change.operations taken.rows
+  -- The row that changes was shown; the others stand as they stood.
+  rows : (index : ℕ) → index < after.operations.count → RowStands setting h' index (after.operations.row index) (shown.request index)
+  rows index there = go shown.effect.operation shown.change.operations shown.rows
     where
-      go : (change : RowChange Operation) → RowsChanged change before.operations after.operations → RowsOwed setting before h' taken.request change
-          → RowStands setting h' index (after.operations.row index) (taken.request index)
+      go : (change : RowChange Operation) → RowsChanged change before.operations after.operations → RowsOwed setting before h' shown.request change
+          → RowStands setting h' index (after.operations.row index) (shown.request index)
       go Kept kept owed = row_stays index (omega (arith, kept.0)) (kept.1 index)
       go (RowBecomes turned row) change owed = at (ℕ_discrete index turned)
         where
-          at : Dec (index ≡ turned) → RowStands setting h' index (after.operations.row index) (taken.request index)
+          at : Dec (index ≡ turned) → RowStands setting h' index (after.operations.row index) (shown.request index)
           at (yes it) =
-              subst (λ i. RowStands setting h' i (after.operations.row i) (taken.request i)) (sym it)
-              (subst (λ r. RowStands setting h' turned r (taken.request turned)) (sym change.1.here) owed.1)
+              subst (λ i. RowStands setting h' i (after.operations.row i) (shown.request i)) (sym it)
+              (subst (λ r. RowStands setting h' turned r (shown.request turned)) (sym change.1.here) owed.1)
           at (no other) = row_stays index (omega (arith, change.0)) (change.1.elsewhere index other)
       go (Added row) change owed = at (ℕ_discrete index before.operations.count)
         where
-          at : Dec (index ≡ before.operations.count) → RowStands setting h' index (after.operations.row index) (taken.request index)
+          at : Dec (index ≡ before.operations.count) → RowStands setting h' index (after.operations.row index) (shown.request index)
           at (yes it) =
-              subst (λ i. RowStands setting h' i (after.operations.row i) (taken.request i)) (sym it)
-              (subst (λ r. RowStands setting h' before.operations.count r (taken.request before.operations.count)) (sym change.here) owed)
+              subst (λ i. RowStands setting h' i (after.operations.row i) (shown.request i)) (sym it)
+              (subst (λ r. RowStands setting h' before.operations.count r (shown.request before.operations.count)) (sym change.here) owed)
           at (no other) = let old : index < before.operations.count = omega (arith, change.count) in row_stays index old (change.elsewhere index old)
 
   -- no row changes its kind
   kind_stays : (index : ℕ) → index < before.operations.count → (after.operations.row index).kind ≡ (before.operations.row index).kind
-  kind_stays index old = go taken.effect.operation taken.change.operations taken.rows
+  kind_stays index old = go shown.effect.operation shown.change.operations shown.rows
     where
-      go : (change : RowChange Operation) → RowsChanged change before.operations after.operations → RowsOwed setting before h' taken.request change
+      go : (change : RowChange Operation) → RowsChanged change before.operations after.operations → RowsOwed setting before h' shown.request change
           → (after.operations.row index).kind ≡ (before.operations.row index).kind
       go Kept kept owed = ap (λ r. r.kind) (kept.1 index)
       go (RowBecomes turned row) change owed = at (ℕ_discrete index turned)
@@ -134,45 +136,46 @@ module _ {setting : Setting} {Earlier : Fact → Type 0} {before after : System}
       go (Added row) change owed = ap (λ r. r.kind) (change.elsewhere index old)
 
   -- an old request is found where it was, a new one where the move says
-  back : (started : Request) → h'.known (WasStarted started) → FoundIn after taken.request started
-  back started (inr new) = taken.started started new
+  back : (started : Request) → h'.known (WasStarted started) → FoundIn after shown.request started
+  back started (inr new) = shown.started started new
   back started (inl old) =
       let found = sound.back started old in
       record {
         operation = found.operation;
         is_started = omega (arith, found.is_started, count_grows);
-        here = taken.requests_kept found.operation found.is_started ∙ found.here;
+        here = shown.requests_kept found.operation found.is_started ∙ found.here;
         kind = kind_stays found.operation found.is_started ∙ found.kind;
       }
 
-  frames : (frame : Frame) → UnderWay frame after → FrameStands h' taken.request after.operations.count frame
-  frames frame there = go (taken.change.frames frame there)
+  -- A frame was sent now, or stood before, and its row is still there.
+  frames : (frame : Frame) → UnderWay frame after → FrameStands h' shown.request after.operations.count frame
+  frames frame there = go (shown.change.frames frame there)
     where
-      go : UnderWay frame before ⊎ Sent taken.effect.sends frame → FrameStands h' taken.request after.operations.count frame
-      go (inr sent) = taken.frames frame sent
+      go : UnderWay frame before ⊎ Sent shown.effect.sends frame → FrameStands h' shown.request after.operations.count frame
+      go (inr sent) = shown.frames frame sent
       go (inl old) =
           let stands = sound.frames frame old in
           record {
             request = stands.request;
-            at = λ operation names. let (is_started, here) = stands.at operation names in (omega (arith, is_started, count_grows), taken.requests_kept operation is_started ∙ here);
+            at = λ operation names. let (is_started, here) = stands.at operation names in (omega (arith, is_started, count_grows), shown.requests_kept operation is_started ∙ here);
             says = says_lasts h h' (λ fact known. inl known) frame stands.request stands.says;
           }
 
   -- The system after a move is sound.
   pub sound_after : Sound setting Earlier after
   sound_after = record {
-    joined = taken.joined;
-    request = taken.request;
-    known = with_fact sound.known taken.fact;
+    joined = shown.joined;
+    request = shown.request;
+    known = with_fact sound.known shown.fact;
     earlier = λ fact was. inl (sound.earlier fact was);
     invariant = invariant_kept setting h h' sound.invariant step;
     rows = rows;
     back = back;
     frames = frames;
-    proposals = taken.proposals;
+    proposals = shown.proposals;
   }
 
   -- And what the move establishes is known.
-  pub fact_is_known : sound_after.known taken.fact
+  pub fact_is_known : sound_after.known shown.fact
   unfolding sound_after
   fact_is_known = inr refl

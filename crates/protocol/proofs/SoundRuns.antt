@@ -47,7 +47,7 @@ module _ (setting : Setting) (system : System) (opening : Opens setting system) 
     frames = λ frame there. absurd (Memᴰ.not-nil (subst (λ frames. Memᴰ frame frames) opening.no_frames there));
     proposals = record {
       proposed = λ proposal there. absurd (omega (arith, opening.no_proposals));
-      decided = λ number proposal decision there follows. absurd (omega (arith, opening.no_proposals));
+      decided = λ number proposal decides. absurd (omega (arith, decides.is_there, opening.no_proposals));
       back = λ configuration is_first. inl cc;
     };
   }

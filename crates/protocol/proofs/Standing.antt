@@ -1,6 +1,7 @@
 -- What the rows, frames and proposals of a system stand for among the facts of its run.
 use Rattle.std.proofs.Common.{◌≡◌, ℕ, suc, ◌<◌, ◌≤◌, true, false, if◌then◌else◌, ◌≢◌, ◌⊎◌, Option, Some, None}
 use Rattle.protocol.specs.State.{Tag, Configuration, Kind, Read, Write, Regroup, Answered, Operation, Frame, Get, GetAck, PutAck, Freeze, Put, Held, Update, System, UnderWay, Setting, first_of, node_at}
+use Rattle.protocol.specs.Conditions.{IsDecided}
 use Rattle.protocol.proofs.History.{Request, Fact, WasStarted, WasAcknowledged, WasAnswered, WasHeld, WasProposed, WasDecided, History, Genuine, HeldBelow}
 use Rattle.protocol.proofs.Invariant.{Invariant}
 use Rattle.protocol.proofs.Lasting.{genuine_lasts}
@@ -96,8 +97,7 @@ pub record DecidedIn (system : System) (configuration : Configuration) : Type 0 
 -- A proposal that is there was proposed; one that is decided under the number before its own was decided; and nothing else was.
 pub record ProposalsStand (setting : Setting) (system : System) (h : History) : Type 0 where
   pub proposed : (proposal : ℕ) → proposal < system.proposals.count → h.known (WasProposed (system.proposals.row proposal))
-  pub decided : (number proposal : ℕ) → system.decisions number ≡ Some proposal → proposal < system.proposals.count
-      → (system.proposals.row proposal).number ≡ suc number → h.known (WasDecided (system.proposals.row proposal))
+  pub decided : (number proposal : ℕ) → IsDecided system number proposal → h.known (WasDecided (system.proposals.row proposal))
   pub back : (configuration : Configuration) → h.known (WasDecided configuration) → (configuration ≡ first_of setting) ⊎ DecidedIn system configuration
 
 -- What is shown of every system that a run reaches. `Earlier` are facts that were known at some earlier point of it.

@@ -1,12 +1,12 @@
 -- The moves by which an operation starts.
 use Rattle.std.proofs.Common.{◌≡◌, ℕ, suc, ◌<◌, Bool, true, false, if◌then◌else◌, List, Some, sym, refl, ap, ◌∙◌, subst, inl, inr, arith}
-use Rattle.protocol.specs.State.{Content, Copy, Read, Write, Regroup, Open, Answered, Operation, Frame, Get, Freeze, Put, System, Setting, first_of, node_at, primary}
+use Rattle.protocol.specs.State.{Content, Copy, Kind, Read, Write, Regroup, Open, Answered, Operation, Frame, Get, Freeze, Put, System, Setting, first_of, node_at, primary, tag_of}
 use Rattle.protocol.specs.Effects.{ToEach, OneAdded, Sent, After}
 use Rattle.protocol.specs.Conditions.{Leads}
 use Rattle.protocol.specs.Changes.{with_next_version, starting, written, read_starts, write_starts, regroup_starts}
-use Rattle.protocol.proofs.History.{Request, Fact, WasStarted, NoFact}
+use Rattle.protocol.proofs.History.{Request, Fact, WasStarted, NoFact, NewStart}
 use Rattle.protocol.proofs.Lasting.{genuine_lasts}
-use Rattle.protocol.proofs.Standing.{history, history_after, RowStands, Says, named, FrameStands, FoundIn, Sound}
+use Rattle.protocol.proofs.Standing.{history, history_after, StandsAs, RowStands, Says, named, FrameStands, FoundIn, Sound}
 use Rattle.protocol.proofs.NodeSteps.{keeps_place, freezes_in_place}
 use Rattle.protocol.proofs.SoundAfter.{ShownMove}
 use Rattle.protocol.proofs.Shared.{replaced, replaced_here, replaced_elsewhere, not_both, not_started, frame_stands, proposals_stay}
@@ -49,7 +49,31 @@ module _ {setting : Setting} {Earlier : Fact → Type 0} {before : System} (soun
         kind = ap (λ r. r.kind) added.here ∙ kind ∙ ap (λ r. if r.writes then Write else Read) is_new;
       }
 
-  -- A read starts at the primary of the configuration that it has joined.
+  -- A row that starts stands for its request, if it does so by its kind: it begins under the number of the configuration that its node has joined.
+  new_row_stands : (fact : Fact) (kind : Kind) (writes : Bool) (node : ℕ) (copy : Copy) (members : List ℕ) (wrote : Copy)
+      → StandsAs setting (history_after sound after fact) (starting before kind node copy members) (starting_request sound writes node wrote) kind
+      → RowStands setting (history_after sound after fact) before.operations.count (starting before kind node copy members) (requests_with sound (starting_request sound writes node wrote) before.operations.count)
+  new_row_stands fact kind writes node copy members wrote by_kind =
+      let request = starting_request sound writes node wrote in
+      subst (λ r. RowStands setting (history_after sound after fact) before.operations.count (starting before kind node copy members) r)
+      (sym (replaced_here sound.request before.operations.count request))
+      (record { same_operation = refl; same_node = refl; same_number = (sound.invariant.nodes node).matches.number; same_start = refl; by_kind = by_kind })
+
+  -- Who leads is the primary of the configuration that it has joined, and may start a request under that.
+  may_start : (node : ℕ) (writes : Bool) (copy : Copy) → Leads node (before.nodes node) → after.moment ≡ suc before.moment
+      → (writes ≡ true → copy.tag ≡ tag_of (suc (before.nodes node).newest) node) → (writes ≡ true → (after.nodes node).newest ≡ suc (before.nodes node).newest)
+      → NewStart (history sound) (history_after sound after (WasStarted (starting_request sound writes node copy))) (starting_request sound writes node copy)
+  may_start node writes copy leads ticks tag newest = record {
+    now = refl;
+    ticks = ticks;
+    under = refl;
+    is_primary = leads.is_primary ∙ ap primary (sym (sound.invariant.nodes node).matches.members);
+    below_32 = leads.below_32;
+    tag = tag;
+    newest = newest;
+  }
+
+  -- A read starts at the primary of the configuration that its node has joined.
   pub start_read : {node : ℕ} → Leads node (before.nodes node)
       → After (read_starts before node) before after
       → ShownMove setting Earlier before after sound
@@ -62,27 +86,12 @@ module _ {setting : Setting} {Earlier : Fact → Type 0} {before : System} (soun
         fact = WasStarted request;
         joined = sound.joined;
         request = requests_with sound request;
-        justified = record {
-          now = refl;
-          ticks = change.moment;
-          under = refl;
-          is_primary = leads.is_primary ∙ ap primary (sym matches.members);
-          below_32 = leads.below_32;
-          tag = λ writes. absurd (not_both false writes refl);
-          newest = λ writes. absurd (not_both false writes refl);
-        };
+        justified = may_start node false (first_of setting).copy leads change.moment (λ writes. absurd (not_both false writes refl)) (λ writes. absurd (not_both false writes refl));
         nodes = λ other. refl;
         requests_kept = old_requests_stay sound request;
         rows =
-            subst (λ r. RowStands setting (history_after sound after (WasStarted request)) before.operations.count (starting before Read node (before.nodes node).served (before.nodes node).members) r)
-            (sym (replaced_here sound.request before.operations.count request))
-            (record {
-              same_operation = refl;
-              same_node = refl;
-              same_number = matches.number;
-              same_start = refl;
-              by_kind = record { started = inr refl; reads = refl; acknowledged = λ place in_set. absurd (not_both false in_set refl); answered = λ answered. absurd (not_answered answered) };
-            });
+            new_row_stands (WasStarted request) Read false node (before.nodes node).served (before.nodes node).members (first_of setting).copy
+            (record { started = inr refl; reads = refl; acknowledged = λ place in_set. absurd (not_both false in_set refl); answered = λ answered. absurd (not_answered answered) });
         started = found_in_new_row request change.operations refl;
         frames =
             first_frames (WasStarted request) request (before.nodes node).members (λ member. Get member node (before.nodes node).number before.operations.count) change.operations
@@ -104,15 +113,7 @@ module _ {setting : Setting} {Earlier : Fact → Type 0} {before : System} (soun
         fact = WasStarted request;
         joined = sound.joined;
         request = requests_with sound request;
-        justified = record {
-          now = refl;
-          ticks = change.moment;
-          under = refl;
-          is_primary = leads.is_primary ∙ ap primary (sym matches.members);
-          below_32 = leads.below_32;
-          tag = λ writes. omega arith;
-          newest = λ writes. omega (arith, ap (λ n. n.newest) change.nodes.here);
-        };
+        justified = may_start node true copy leads change.moment (λ writes. omega arith) (λ writes. omega (arith, ap (λ n. n.newest) change.nodes.here));
         nodes = (
           λ other is_other. refl,
           keeps_place setting (history sound) (history_after sound after (WasStarted request)) node (with_next_version (before.nodes node)) change.nodes.here matches refl
@@ -121,20 +122,13 @@ module _ {setting : Setting} {Earlier : Fact → Type 0} {before : System} (soun
         );
         requests_kept = old_requests_stay sound request;
         rows =
-            subst (λ r. RowStands setting (history_after sound after (WasStarted request)) before.operations.count (starting before Write node copy (before.nodes node).members) r)
-            (sym (replaced_here sound.request before.operations.count request))
+            new_row_stands (WasStarted request) Write true node copy (before.nodes node).members copy
             (record {
-              same_operation = refl;
-              same_node = refl;
-              same_number = matches.number;
-              same_start = refl;
-              by_kind = record {
-                started = inr refl;
-                writes = refl;
-                copy = refl;
-                acknowledged = λ place in_set. absurd (not_both false in_set refl);
-                answered = λ answered. absurd (not_answered answered);
-              };
+              started = inr refl;
+              writes = refl;
+              copy = refl;
+              acknowledged = λ place in_set. absurd (not_both false in_set refl);
+              answered = λ answered. absurd (not_answered answered);
             });
         started = found_in_new_row request change.operations refl;
         frames =
@@ -160,20 +154,13 @@ module _ {setting : Setting} {Earlier : Fact → Type 0} {before : System} (soun
         nodes = (λ other is_other. refl, freezes_in_place setting (history sound) (history_after sound after NoFact) node change.nodes.here stands.matches refl);
         requests_kept = old_requests_stay sound request;
         rows =
-            subst (λ r. RowStands setting (history_after sound after NoFact) before.operations.count (starting before Regroup node (before.nodes node).served new_members) r)
-            (sym (replaced_here sound.request before.operations.count request))
+            new_row_stands NoFact Regroup false node (before.nodes node).served new_members (first_of setting).copy
             (record {
-              same_operation = refl;
-              same_node = refl;
-              same_number = stands.matches.number;
-              same_start = refl;
-              by_kind = record {
-                decided = inl stands.decided;
-                each = λ place in_set. absurd (not_both false in_set refl);
-                genuine = genuine_lasts (λ fact known. inl known) setting stands.served_genuine;
-                above_opening = stands.served_above_opening;
-                not_answered = not_answered;
-              };
+              decided = inl stands.decided;
+              each = λ place in_set. absurd (not_both false in_set refl);
+              genuine = genuine_lasts (λ fact known. inl known) setting stands.served_genuine;
+              above_opening = stands.served_above_opening;
+              not_answered = not_answered;
             });
         started = not_started NoFact refl;
         frames =

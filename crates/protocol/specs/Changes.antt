@@ -1,4 +1,4 @@
--- What moves change: of a node, of an operation, and in all.
+-- The effect of each move, and what it makes of a node and of an operation.
 use Rattle.std.specs.Prelude.{ℕ, suc, max, true, List, Some}
 use Rattle.protocol.specs.State.{Content, Copy, tag_of, newer, nowhere, joined_by, version_of, Configuration, Active, Frozen, Node, Kind, Read, Write, Regroup, Stage, Open, Answered, GivenUp, Proposed, Operation, Get, GetAck, PutAck, Freeze, Put, Held, Update, System}
 use Rattle.protocol.specs.Effects.{Effect, quiet, Becomes, RowBecomes, Added, Reply, ToEach}
@@ -108,7 +108,7 @@ put_acknowledged before receiver sender number operation copy = record quiet {
   sends = Reply (PutAck sender receiver number operation);
 }
 
--- What a node holds out when it freezes: the copy that it has stored, which is no lower than all that it acknowledged.
+-- What a node holds out when it freezes: the copy that it has stored, which is no lower than any write that it acknowledged.
 abbrev pub held_out : System → ℕ → Copy
 held_out before receiver = (before.nodes receiver).stored
 

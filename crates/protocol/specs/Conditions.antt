@@ -16,7 +16,7 @@ pub record TakesPart (state : Node) : Type 0 where
   pub running : state.stopped ≡ false
   pub not_idle : state.status ≢ Idle
 
--- The node does what the sender asks of it under the number. A frozen node does not: the next group opens with what it held out when it froze.
+-- The node does what the sender asks of it under the number. A frozen node does not: what it acknowledged then would not be in what it held out.
 pub record Obeys (state : Node) (sender number : ℕ) : Type 0 where
   pub running : state.stopped ≡ false
   pub still_active : state.status ≡ Active

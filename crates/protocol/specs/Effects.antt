@@ -1,4 +1,4 @@
--- What a move changes. An effect names it, and `After` says that all else stays.
+-- What an effect is: what it names changes, and all else stays (`After`).
 use Rattle.std.specs.Prelude.{◌≡◌, ℕ, suc, ◌<◌, Bool, false, ◌≢◌, ◌⊎◌, List, length, Option, if◌then◌else◌}
 use Rattle.protocol.specs.State.{Node, Operation, Configuration, Frame, Table, System, UnderWay, node_at}
 

@@ -34,20 +34,22 @@ TookEffect system operation = IsAnswered system operation ⊎ IsReturned system 
 abbrev pub AnsweredBefore : System → ℕ → ℕ → Type 0
 AnsweredBefore early first second = IsAnswered early first × (early.operations.count ≤ second)
 
--- what was asked is the same; of a write, also what it writes
+-- What was asked is the same: for a regroup that is its new members, and for a write also what it writes.
 pub record SameRequest (old new : Operation) : Type 0 where
   pub kind : new.kind ≡ old.kind
   pub node : new.node ≡ old.node
   pub number : new.number ≡ old.number
+  pub members : new.members ≡ old.members
   pub start : new.start ≡ old.start
   pub written : old.kind ≡ Write → new.copy ≡ old.copy
 
 pub record OrderLaw (setting : Setting) (early late : System) : Type 0 where
-  -- (a) An answered read has the first copy, or the copy of a write; and writes are told apart by their tags.
+  -- (a) An answered read has the first copy, or the copy of a write; and writes are told apart by their tags, which are above the first one.
   pub reads : (read : ℕ) → IsAnsweredRead late read
       → ((late.operations.row read).copy ≡ (first_of setting).copy) ⊎ ((write : ℕ) × IsWrite late write × ((late.operations.row write).copy ≡ (late.operations.row read).copy))
   pub tags_differ : (one other : ℕ) → IsWrite late one → IsWrite late other → tag_in late one ≡ tag_in late other → one ≡ other
   pub tags_are_above : (write : ℕ) → IsWrite late write → first_tag < tag_in late write
+  pub tags_name_nodes : (write : ℕ) → IsWrite late write → ((late.operations.row write).node < 32) × (version : ℕ) × (tag_in late write ≡ tag_of version (late.operations.row write).node)
   -- (b) What was answered before another operation started has no higher tag than that one, if that took effect; and a lower tag, if that is a write.
   pub never_higher : (first second : ℕ) → AnsweredBefore early first second → TookEffect late second → tag_in late first ≤ tag_in late second
   pub writes_are_higher : (first second : ℕ) → AnsweredBefore early first second → TookEffect late second → (late.operations.row second).kind ≡ Write
@@ -62,7 +64,7 @@ pub record OrderLaw (setting : Setting) (early late : System) : Type 0 where
   pub requests_stay : (operation : ℕ) → operation < early.operations.count → (operation < late.operations.count) × SameRequest (early.operations.row operation) (late.operations.row operation)
   pub answers_stay : (operation : ℕ) → IsAnswered early operation → IsAnswered late operation × (late.operations.row operation ≡ early.operations.row operation)
   pub only_reads_and_writes : (operation : ℕ) → IsAnswered late operation → (late.operations.row operation).kind ≢ Regroup
-  -- The moments that rows keep tell what came first.
+  -- What came first has the lower moment.
   pub starts_rise : (first second : ℕ) → first < second → second < late.operations.count → (late.operations.row first).start < (late.operations.row second).start
   pub starts_first : (operation : ℕ) → IsAnswered late operation → (late.operations.row operation).start < (late.operations.row operation).answer
   pub moments_tell : (first second : ℕ) → AnsweredBefore early first second → second < late.operations.count → (late.operations.row first).answer < (late.operations.row second).start
@@ -71,6 +73,6 @@ pub record OrderLaw (setting : Setting) (early late : System) : Type 0 where
 abbrev pub TagsCompare : Type 0
 TagsCompare = (version node version' node' : ℕ) → node < 32 → node' < 32 → (tag_of version node < tag_of version' node') ↔ ((version < version') ⊎ ((version ≡ version') × (node < node')))
 
--- The law holds in every finite run from an opening, over every pair of families.
+-- The law holds in every finite run from an opening, over every pair of families whose sets meet.
 abbrev pub OrderHolds : Type 0
 OrderHolds = (setting : Setting) (early late : System) → Reached setting early → Later setting early late → OrderLaw setting early late

@@ -1,6 +1,7 @@
+-- The definitions, in the order to read them.
 pub mod State
-pub mod Effects
 pub mod Conditions
+pub mod Effects
 pub mod Changes
 pub mod Moves
 pub mod Law

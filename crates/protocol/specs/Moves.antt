@@ -6,7 +6,7 @@ use Rattle.protocol.specs.Effects.{Effect, quiet, After}
 use Rattle.protocol.specs.Conditions.{Leads, TakesPart, Obeys, MayJoin, IsOpen, Counts, CountsAck, Enough, FirstOrHigher, NotHigher, Proposes, Undecided, IsDecided}
 use Rattle.protocol.specs.Changes.{read_starts, write_starts, regroup_starts, get_acknowledged, put_acknowledged, freeze_obeyed, place_joins, read_answered, write_answered, held_taken, update_taken, regroup_proposed, proposal_sent, proposal_decided, operation_given_up, node_stopped}
 
--- Which effects are allowed before which moves. Deliveries are of frames under way, of all seven kinds. A frame that meets no condition is ignored, which is no move.
+-- Which effects a system allows, move by move. Deliveries are of frames under way, of all seven kinds. A frame that meets no condition is ignored, which is no move.
 pub data Allowed (setting : Setting) (before : System) : Effect → Type 0 where
   StartRead : (node : ℕ) → Leads node (before.nodes node) → Allowed setting before (read_starts before node)
   StartWrite : (node : ℕ) (content : Content) → Leads node (before.nodes node) → Allowed setting before (write_starts before node content)

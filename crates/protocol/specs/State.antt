@@ -28,7 +28,7 @@ pub record Copy : Type 0 where
 abbrev pub newer : Copy → Copy → Copy
 newer old new = if nat_lt old.tag new.tag then new else old
 
--- the node at a place of a list of members; the first is the primary
+-- the node at a place of a list of members, and 0 past the end; the first is the primary
 abbrev pub node_at : List ℕ → ℕ → ℕ
 node_at members place = slice_index members place
 
@@ -54,7 +54,7 @@ pub record Configuration : Type 0 where
   pub members : List ℕ
   pub copy : Copy
 
--- Active: takes reads and writes. Frozen: a change of its group has begun. Idle: in no group yet.
+-- Active: acknowledges reads and writes, and starts them if it is the primary. Frozen: a change of its group has begun. Idle: in no group yet.
 pub data Status : Type 0 where
   Idle Active Frozen : Status
 

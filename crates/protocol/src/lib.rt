@@ -4,7 +4,7 @@
 ghost use Rattle.protocol.specs.Law.{OrderHolds, TagsCompare};
 ghost use Rattle.protocol.specs.Line.{Linearizable};
 
-/// Whatever the network delivers, repeats or loses: the answers and the writes of every run stand in one order that respects time, across changes of the group.
+/// Whatever the network delivers, repeats or loses: in every run the operations that took effect stand in one line that keeps real time, across changes of the group, and each read returns what the last write ahead of it wrote.
 pub fn order_holds()
     ensures order { OrderHolds }
     ensures line { Linearizable }

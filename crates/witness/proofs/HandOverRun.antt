@@ -65,6 +65,6 @@ handed_over = record {
   in_time = (record { is_started = lit< tt; answered = refl }, lit≤ tt);
   was_read = record { answered = record { is_started = lit< tt; answered = refl }; read = refl };
   same_copy = refl;
-  next_group = lit< tt;
+  next_group = refl;
   other_members = λ same. cc;
 }

@@ -1,3 +1,5 @@
+-- The two runs, and how they are checked.
+
 -- Scripts of steps, and how they are checked
 pub mod Performing
 pub mod Checking

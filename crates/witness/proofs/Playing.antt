@@ -1,7 +1,9 @@
 -- Runs by scripts: lists of steps, each of which is checked to be allowed where it is taken.
-use Rattle.std.proofs.Common.{ℕ, Bool, if◌then◌else◌, nat_lt, List, [], ◌∷◌, length, None, refl, inl, inr}
-use Rattle.protocol.specs.State.{Content, Copy, joined_by, nowhere, Read, Write, Regroup, Open, Frame, Get, GetAck, PutAck, Freeze, Put, Held, Update, System, Setting, first_of}
+use Rattle.std.proofs.Common.{ℕ, Bool, true, false, if◌then◌else◌, nat_lt, List, [], ◌∷◌, length, None, refl, inl, inr}
+use Rattle.protocol.specs.State.{Content, Copy, joined_by, nowhere, Kind, Read, Write, Regroup, Open, Frame, Get, GetAck, PutAck, Freeze, Put, Held, Update, System, UnderWay, Setting, first_of}
 use Rattle.protocol.specs.Effects.{Effect}
+use Rattle.protocol.specs.Conditions.{CountsAck, Enough}
+use Rattle.protocol.specs.Changes.{place_joins}
 use Rattle.protocol.specs.Moves.{opened, Allowed, StartRead, StartWrite, StartRegroup, DeliverGet, DeliverPut, DeliverFreeze, DeliverGetAck, DeliverPutAck, AnswerRead, AnswerWrite, DeliverHeld, DeliverLowerHeld, DeliverUpdate, Propose, Settle, Decide, Move, Reached, AtOpening, Later, Now, AfterMove}
 use Rattle.protocol.proofs.Moments.{reached_later}
 use Rattle.witness.proofs.Performing.{perform, performed}
@@ -32,23 +34,17 @@ module _ (setting : Setting) (before : System) where
   abbrev enough_with : (receiver operation place : ℕ) → Bool
   enough_with receiver operation place = setting.answers (length (before.nodes receiver).members) (joined_by (before.operations.row operation).set place)
 
-  abbrev get_ack_arrives : (receiver sender number operation place : ℕ) → Outcome setting before
-  get_ack_arrives receiver sender number operation place =
+  -- an acknowledgement of an operation of a kind: it only joins those that are there, or it is enough, and answers
+  abbrev ack_arrives : {answered : Effect} (frame : Frame) (kind : Kind) (receiver sender number operation place : ℕ)
+      → (UnderWay frame before → CountsAck before kind receiver sender number operation place → Enough setting before receiver operation place false → Allowed setting before (place_joins before operation place))
+      → (UnderWay frame before → CountsAck before kind receiver sender number operation place → Enough setting before receiver operation place true → Allowed setting before answered)
+      → Outcome setting before
+  ack_arrives frame kind receiver sender number operation place joins answers =
       let enough = enough_with receiver operation place in
-      let there = under_way (GetAck receiver sender number operation) before in
-      let counted = counts_ack before Read receiver sender number operation place in
+      let counted = counts_ack before kind receiver sender number operation place in
       if enough
-      then outcome (says (AnswerRead receiver sender number operation place) given there given counted given is_true enough)
-      else outcome (says (DeliverGetAck receiver sender number operation place) given there given counted given is_false enough)
-
-  abbrev put_ack_arrives : (receiver sender number operation place : ℕ) → Outcome setting before
-  put_ack_arrives receiver sender number operation place =
-      let enough = enough_with receiver operation place in
-      let there = under_way (PutAck receiver sender number operation) before in
-      let counted = counts_ack before Write receiver sender number operation place in
-      if enough
-      then outcome (says (AnswerWrite receiver sender number operation place) given there given counted given is_true enough)
-      else outcome (says (DeliverPutAck receiver sender number operation place) given there given counted given is_false enough)
+      then outcome (says answers given under_way frame before given counted given is_true enough)
+      else outcome (says joins given under_way frame before given counted given is_false enough)
 
   -- a copy that is held out: higher than the regroup's; or else not the first; or else the first
   abbrev held_arrives : (receiver sender number operation : ℕ) (copy : Copy) (place : ℕ) → Outcome setting before
@@ -73,8 +69,14 @@ module _ (setting : Setting) (before : System) where
   arrives (Freeze receiver sender number operation) =
       outcome (says (DeliverFreeze receiver sender number operation) given under_way (Freeze receiver sender number operation) before given takes_part (before.nodes receiver)
       given equal (before.nodes receiver).number number)
-  arrives (GetAck receiver sender number operation) = get_ack_arrives receiver sender number operation (place_of sender (before.nodes receiver).members)
-  arrives (PutAck receiver sender number operation) = put_ack_arrives receiver sender number operation (place_of sender (before.nodes receiver).members)
+  arrives (GetAck receiver sender number operation) =
+      let place = place_of sender (before.nodes receiver).members in
+      ack_arrives (GetAck receiver sender number operation) Read receiver sender number operation place
+      (DeliverGetAck receiver sender number operation place) (AnswerRead receiver sender number operation place)
+  arrives (PutAck receiver sender number operation) =
+      let place = place_of sender (before.nodes receiver).members in
+      ack_arrives (PutAck receiver sender number operation) Write receiver sender number operation place
+      (DeliverPutAck receiver sender number operation place) (AnswerWrite receiver sender number operation place)
   arrives (Held receiver sender number operation copy) = held_arrives receiver sender number operation copy (place_of sender (before.nodes receiver).members)
   arrives (Update receiver sender next) =
       outcome (says (DeliverUpdate receiver sender next) given under_way (Update receiver sender next) before given may_join receiver (before.nodes receiver) next)

@@ -1,4 +1,4 @@
--- The majority rule: more than half of the places answer an operation, and as many freeze a group. That two such sets share a place is a lemma, which is checked.
+-- The majority, as two families of sets: more than half of the places answer an operation, and as many freeze a group. It is defined anew, as a set is a function here; nothing ties it to `Majority` of the crate `quorum`. That two such sets share a place is a lemma, which is checked.
 use Rattle.std.proofs.Common.{◌≡◌, ℕ, zero, suc, ◌+◌, ◌*◌, ◌<◌, ◌≤◌, Bool, true, false, nat_lt, if◌then◌else◌, refl, ap, arith, List, ltb-true}
 use Rattle.protocol.specs.State.{Places, Content, Setting}
 

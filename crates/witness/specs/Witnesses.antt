@@ -1,11 +1,11 @@
 -- Two runs that exist, so that the law is not about nothing: a change of group, and the hardest case.
-use Rattle.std.specs.Prelude.{◌≡◌, ℕ, ◌<◌, ◌≢◌, [], ◌∷◌}
+use Rattle.std.specs.Prelude.{◌≡◌, ℕ, suc, ◌<◌, ◌≢◌, [], ◌∷◌}
 use Rattle.protocol.specs.State.{Open, System, Setting}
 use Rattle.protocol.specs.Moves.{Reached, Later}
 use Rattle.protocol.specs.Law.{tag_in, IsWrite, IsAnsweredRead, AnsweredBefore}
 use Rattle.witness.specs.Majorities.{majority_of}
 
--- majority, with the first members 1 to 3, or 1 to 5; the first content has no bytes
+-- more than half of the places answer and freeze; the first members are 1 to 3, or 1 to 5, and the first content has no bytes
 abbrev pub three_nodes : Setting
 three_nodes = majority_of (1 ∷ 2 ∷ 3 ∷ []) []
 
@@ -22,7 +22,7 @@ pub record HandedOver (setting : Setting) (early late : System) : Type 0 where
   pub in_time : AnsweredBefore early write read
   pub was_read : IsAnsweredRead late read
   pub same_copy : (late.operations.row read).copy ≡ (late.operations.row write).copy
-  pub next_group : (late.operations.row write).number < (late.operations.row read).number
+  pub next_group : (late.operations.row read).number ≡ suc (late.operations.row write).number
   pub other_members : (late.operations.row write).members ≢ (late.operations.row read).members
 
 -- A write started after something was answered under a higher number: its primary was left behind. The write is still open. And yet a read of a later group was answered with its copy, with which that group was opened.

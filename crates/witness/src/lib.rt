@@ -3,7 +3,7 @@
 
 ghost use Rattle.witness.specs.Witnesses.{RunsExist};
 
-/// There is a run that hands a write over to a next group, and one in which a write that was never answered comes to light as the opening copy of a later group.
+/// There is a run that hands a write over to the next group, and one in which a write that is not answered comes to light as the opening copy of a later group.
 pub fn runs_exist()
     ensures runs { RunsExist }
 {}
