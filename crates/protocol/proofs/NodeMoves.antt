@@ -7,7 +7,7 @@ use Rattle.protocol.specs.Changes.{held_out, storing, stopping, get_acknowledged
 use Rattle.protocol.proofs.History.{off_duty, Fact, WasAcknowledged, WasHeld, NoFact, position}
 use Rattle.protocol.proofs.Lasting.{decided_is_genuine}
 use Rattle.protocol.proofs.Standing.{history_of, with_fact, history, history_after, FrameStands, Sound}
-use Rattle.protocol.proofs.NodeSteps.{newer_is_above, newer_is_genuine, keeps_place, joins_next, freezes_in_place}
+use Rattle.protocol.proofs.NodeSteps.{keeps_status, newer_is_above, newer_is_genuine, keeps_place, joins_next, freezes_in_place}
 use Rattle.protocol.proofs.SoundAfter.{ShownMove}
 use Rattle.protocol.proofs.Shared.{plain_move, replaced, replaced_here, replaced_elsewhere, not_both, not_started, frame_says, reply_stands, joined_is, proposals_stay}
 
@@ -48,7 +48,7 @@ module _ {setting : Setting} {Earlier : Fact → Type 0} {before : System} (soun
         nodes = (
           λ other is_other. refl,
           keeps_place setting (history sound) (history_after sound after fact) receiver (storing (before.nodes receiver) copy) here (sound.invariant.nodes receiver).matches refl
-              (record { number = refl; members = refl; opening = refl; duty = omega arith; idle = λ idle. idle; newest = omega arith })
+              (keeps_status (omega arith))
               (omega (arith, above)) (newer_is_genuine setting (history sound) (before.nodes receiver).stored copy (inr (sound.request operation, record { started = says.0; writes = says.1; same = says.3 })))
               (omega arith) (inl refl),
         );
@@ -110,7 +110,7 @@ module _ {setting : Setting} {Earlier : Fact → Type 0} {before : System} (soun
     nodes = (
       λ other is_other. refl,
       keeps_place setting (history sound) (history_after sound after NoFact) node (stopping (before.nodes node)) change.nodes.here (sound.invariant.nodes node).matches refl
-          (record { number = refl; members = refl; opening = refl; duty = omega arith; idle = λ idle. idle; newest = omega arith })
+          (keeps_status (omega arith))
           (omega arith) (inl refl) (omega arith) (inl refl),
     );
     rows = tt;

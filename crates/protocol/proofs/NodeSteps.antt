@@ -42,6 +42,10 @@ pub record KeepsPlace (old new : Node) : Type 0 where
   pub idle : new.status ≡ Idle → old.status ≡ Idle
   pub newest : old.newest ≤ new.newest
 
+-- A node does, of which only the stopped mark, the copies and the newest version change, where that does not fall.
+pub keeps_status : {old : Node} {stopped : Bool} {stored served : Copy} {newest : ℕ} → old.newest ≤ newest → KeepsPlace old (record old { stopped = stopped; stored = stored; served = served; newest = newest })
+keeps_status newest = record { number = refl; members = refl; opening = refl; duty = omega arith; idle = λ idle. idle; newest = newest }
+
 module _ (setting : Setting) (h h' : History) (node : ℕ) (new : Node) (here : h'.nodes node ≡ new) where
   -- A node that keeps its place may store a genuine copy that is no lower, and serve a write of its own that is answered.
   pub keeps_place : Matches (h.nodes node) (h.joined node) → h'.joined node ≡ h.joined node → KeepsPlace (h.nodes node) new

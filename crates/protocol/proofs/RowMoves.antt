@@ -8,7 +8,7 @@ use Rattle.protocol.proofs.History.{Request, Fact, WasStarted, WasAcknowledged, 
 use Rattle.protocol.proofs.Invariant.{SoundHeld}
 use Rattle.protocol.proofs.Lasting.{genuine_lasts}
 use Rattle.protocol.proofs.Standing.{with_fact, history, history_after, ReadStands, WriteStands, RegroupStands, StandsAs, RowStands, Sound, held_below_lasts, row_lasts}
-use Rattle.protocol.proofs.NodeSteps.{NewerIs, newer_is, newer_is_above, keeps_place}
+use Rattle.protocol.proofs.NodeSteps.{keeps_status, NewerIs, newer_is, newer_is_above, keeps_place}
 use Rattle.protocol.proofs.SoundAfter.{ShownMove}
 use Rattle.protocol.proofs.Shared.{plain_move, not_both, frame_says, joined_is}
 
@@ -20,21 +20,17 @@ in_joined set place other joined = go (set other) refl joined
     go true was_in is_in = inl was_in
     go false was_in is_in = inr (eqb-true other place is_in)
 
--- A row that changes stands for its request as long as it keeps its kind, node, number and start.
-pub record SameRow (old new : Operation) : Type 0 where
-  pub kind : new.kind ≡ old.kind
-  pub node : new.node ≡ old.node
-  pub number : new.number ≡ old.number
-  pub start : new.start ≡ old.start
-
-row_turns : (setting : Setting) (h h' : History) (operation : ℕ) (old new : Operation) (request : Request) → SameRow old new → RowStands setting h operation old request
-    → (kind : Kind) → old.kind ≡ kind → StandsAs setting h' new request kind → RowStands setting h' operation new request
-row_turns setting h h' operation old new request same stands kind of_kind as_kind = record {
+-- A row of which only copy, set, stage and answer change stands for the same request, if it still does so by its kind.
+changed_row_stands : {setting : Setting} {h h' : History} {operation : ℕ} {old : Operation} {request : Request} {copy : Copy} {set : Places} {stage : Stage} {answer : ℕ}
+    → RowStands setting h operation old request → (kind : Kind) → old.kind ≡ kind
+    → StandsAs setting h' (record old { copy = copy; set = set; stage = stage; answer = answer }) request kind
+    → RowStands setting h' operation (record old { copy = copy; set = set; stage = stage; answer = answer }) request
+changed_row_stands {setting} {h' = h'} {old = old} {request} {copy} {set} {stage} {answer} stands kind of_kind as_kind = record {
   same_operation = stands.same_operation;
-  same_node = stands.same_node ∙ sym same.node;
-  same_number = stands.same_number ∙ sym same.number;
-  same_start = stands.same_start ∙ sym same.start;
-  by_kind = subst (λ k. StandsAs setting h' new request k) (sym (same.kind ∙ of_kind)) as_kind;
+  same_node = stands.same_node;
+  same_number = stands.same_number;
+  same_start = stands.same_start;
+  by_kind = subst (λ k. StandsAs setting h' (record old { copy = copy; set = set; stage = stage; answer = answer }) request k) (sym of_kind) as_kind;
 }
 
 -- What a receiver that counts the sender's frame knows of the operation.
@@ -85,15 +81,18 @@ module _ {setting : Setting} {Earlier : Fact → Type 0} {before : System} (soun
       go (inr is_place) = subst Each (sender_is decided ∙ ap (λ p. node_at request.configuration.members p) (sym is_place)) of_sender
 
 module _ {setting : Setting} {Earlier : Fact → Type 0} {before : System} (sound : Sound setting Earlier before) (after : System) where
-  -- Only a row changes, and no fact is new.
-  row_changes : (operation : ℕ) (new : Operation) → After (record quiet { operation = RowBecomes operation new }) before after → operation < before.operations.count
-      → SameRow (before.operations.row operation) new → (kind : Kind) → (before.operations.row operation).kind ≡ kind → StandsAs setting (history_after sound after NoFact) new (sound.request operation) kind
+  -- Only a row changes, in its copy, set, stage or answer, and no fact is new.
+  row_changes : {copy : Copy} {set : Places} {stage : Stage} {answer : ℕ} (operation : ℕ) (kind : Kind)
+      → After (record quiet { operation = RowBecomes operation (record (before.operations.row operation) { copy = copy; set = set; stage = stage; answer = answer }) }) before after
+      → operation < before.operations.count → (before.operations.row operation).kind ≡ kind
+      → StandsAs setting (history_after sound after NoFact) (record (before.operations.row operation) { copy = copy; set = set; stage = stage; answer = answer }) (sound.request operation) kind
       → ShownMove setting Earlier before after sound
-  row_changes operation new change is_started same kind of_kind stands =
+  row_changes {copy} {set} {stage} {answer} operation kind change is_started of_kind stands =
+      let new = record (before.operations.row operation) { copy = copy; set = set; stage = stage; answer = answer } in
       plain_move sound after (record quiet { operation = RowBecomes operation new }) NoFact refl refl change change.proposals change.decisions (record {
         justified = tt;
         nodes = λ node. refl;
-        rows = (same.kind, row_turns setting (history sound) (history_after sound after NoFact) operation (before.operations.row operation) new (sound.request operation) same (sound.rows operation is_started) kind of_kind stands);
+        rows = (refl, changed_row_stands (sound.rows operation is_started) kind of_kind stands);
         frames = λ frame sent. absurd sent;
       })
 
@@ -145,7 +144,7 @@ module _ {setting : Setting} {Earlier : Fact → Type 0} {before : System} (soun
   deliver_get_ack {operation = operation} {place = place} there counted change =
       let counts = counted.counts in
       let new = with_place (before.operations.row operation) place in
-      row_changes operation new change counts.waits.is_started (record { kind = refl; node = refl; number = refl; start = refl }) Read counts.of_kind
+      row_changes operation Read change counts.waits.is_started counts.of_kind
       (read_row counts there NoFact new refl (λ answered. inl ((stands_as sound counts).answered answered)))
 
   -- So is one of a write.
@@ -155,7 +154,7 @@ module _ {setting : Setting} {Earlier : Fact → Type 0} {before : System} (soun
   deliver_put_ack {operation = operation} {place = place} there counted change =
       let counts = counted.counts in
       let new = with_place (before.operations.row operation) place in
-      row_changes operation new change counts.waits.is_started (record { kind = refl; node = refl; number = refl; start = refl }) Write counts.of_kind
+      row_changes operation Write change counts.waits.is_started counts.of_kind
       (write_row counts there NoFact new refl refl (λ answered. inl ((stands_as sound counts).answered answered)))
 
   -- A read or a write is answered: what its receiver may say of that, but for the copy. The receiver is still in the configuration that the operation was started under.
@@ -192,10 +191,10 @@ module _ {setting : Setting} {Earlier : Fact → Type 0} {before : System} (soun
       was_acknowledged (inr same) = absurd cc
 
   -- What the receiver of an answered write serves is what it served, or the write, which is its own.
-  serves : {receiver sender number operation place : ℕ} (counts : Counts before Write receiver sender number operation place)
+  serves_old_or_own : {receiver sender number operation place : ℕ} (counts : Counts before Write receiver sender number operation place)
       → (newer (before.nodes receiver).served (before.operations.row operation).copy ≡ (before.nodes receiver).served)
       ⊎ OwnAnswer (history sound) (history_after sound after (WasAnswered (sound.request operation) (before.operations.row operation).copy (suc before.moment))) receiver (newer (before.nodes receiver).served (before.operations.row operation).copy)
-  serves {receiver = receiver} {operation = operation} counts = go (newer_is (before.nodes receiver).served answer)
+  serves_old_or_own {receiver = receiver} {operation = operation} counts = go (newer_is (before.nodes receiver).served answer)
     where
       answer : Copy
       answer = (before.operations.row operation).copy
@@ -238,8 +237,7 @@ module _ {setting : Setting} {Earlier : Fact → Type 0} {before : System} (soun
         nodes = λ node. refl;
         rows = (
           refl,
-          row_turns setting (history sound) (history_after sound after fact) operation (before.operations.row operation) new request (record { kind = refl; node = refl; number = refl; start = refl })
-              (sound.rows operation counts.waits.is_started) Read counts.of_kind row,
+          changed_row_stands (sound.rows operation counts.waits.is_started) Read counts.of_kind row,
         );
         frames = λ frame sent. absurd sent;
       })
@@ -267,13 +265,12 @@ module _ {setting : Setting} {Earlier : Fact → Type 0} {before : System} (soun
         nodes = (
           λ other is_other. refl,
           keeps_place setting (history sound) (history_after sound after fact) receiver (serving (before.nodes receiver) answer) change.nodes.here (sound.invariant.nodes receiver).matches refl
-              (record { number = refl; members = refl; opening = refl; duty = omega arith; idle = λ idle. idle; newest = omega arith })
-              (omega arith) (inl refl) (omega (arith, above)) (serves counts),
+              (keeps_status (omega arith))
+              (omega arith) (inl refl) (omega (arith, above)) (serves_old_or_own counts),
         );
         rows = (
           refl,
-          row_turns setting (history sound) (history_after sound after fact) operation (before.operations.row operation) new request (record { kind = refl; node = refl; number = refl; start = refl })
-              (sound.rows operation counts.waits.is_started) Write counts.of_kind row,
+          changed_row_stands (sound.rows operation counts.waits.is_started) Write counts.of_kind row,
         );
         frames = λ frame sent. absurd sent;
       })
@@ -313,7 +310,7 @@ module _ {setting : Setting} {Earlier : Fact → Type 0} {before : System} (soun
       → After (held_taken before operation place copy) before after
       → ShownMove setting Earlier before after sound
   deliver_held {receiver} {sender} {number} {operation} {place} {copy} there counts first_or_higher change =
-      row_changes operation new change counts.waits.is_started (record { kind = refl; node = refl; number = refl; start = refl }) Regroup counts.of_kind
+      row_changes operation Regroup change counts.waits.is_started counts.of_kind
       (regroup_row counts there new refl (stands_as sound counts).not_answered (omega arith) (λ other was_in. lower other was_in first_or_higher) held.genuine held.above_opening)
     where
       new : Operation
@@ -334,7 +331,7 @@ module _ {setting : Setting} {Earlier : Fact → Type 0} {before : System} (soun
   deliver_lower_held {operation = operation} {place = place} there counts not_higher change =
       let old = stands_as sound counts in
       let new = with_place (before.operations.row operation) place in
-      row_changes operation new change counts.waits.is_started (record { kind = refl; node = refl; number = refl; start = refl }) Regroup counts.of_kind
+      row_changes operation Regroup change counts.waits.is_started counts.of_kind
       (regroup_row counts there new refl old.not_answered (omega (arith, not_higher.0)) (λ other was_in. omega arith) old.genuine old.above_opening)
 
   -- What stands stands at another stage that is not Answered.
@@ -342,7 +339,7 @@ module _ {setting : Setting} {Earlier : Fact → Type 0} {before : System} (soun
       → RowStands setting (history_after sound after fact) operation (at_stage (before.operations.row operation) stage) (sound.request operation)
   row_at_stage_stands fact operation stage not_answered is_started =
       let lasting = row_lasts (history sound) (history_after sound after fact) (λ old known. inl known) setting operation row request (sound.rows operation is_started) in
-      row_turns setting (history_after sound after fact) (history_after sound after fact) operation row (at_stage row stage) request (record { kind = refl; node = refl; number = refl; start = refl }) lasting row.kind refl (go row.kind lasting.by_kind)
+      changed_row_stands lasting row.kind refl (go row.kind lasting.by_kind)
     where
       row : Operation
       row = before.operations.row operation
@@ -359,5 +356,5 @@ module _ {setting : Setting} {Earlier : Fact → Type 0} {before : System} (soun
   pub give_up : {operation : ℕ} → IsOpen before operation → After (operation_given_up before operation) before after → ShownMove setting Earlier before after sound
   give_up {operation} waits change =
       let row = before.operations.row operation in
-      row_changes operation (at_stage row GivenUp) change waits.is_started (record { kind = refl; node = refl; number = refl; start = refl }) row.kind refl
+      row_changes operation row.kind change waits.is_started refl
       ((row_at_stage_stands NoFact operation GivenUp (λ same. cc) waits.is_started).by_kind)

@@ -7,7 +7,7 @@ use Rattle.protocol.specs.Changes.{with_next_version, starting, written, read_st
 use Rattle.protocol.proofs.History.{Request, Fact, WasStarted, NoFact, NewStart}
 use Rattle.protocol.proofs.Lasting.{genuine_lasts}
 use Rattle.protocol.proofs.Standing.{history, history_after, StandsAs, RowStands, Says, named, FrameStands, FoundIn, Sound}
-use Rattle.protocol.proofs.NodeSteps.{keeps_place, freezes_in_place}
+use Rattle.protocol.proofs.NodeSteps.{keeps_status, keeps_place, freezes_in_place}
 use Rattle.protocol.proofs.SoundAfter.{ShownMove}
 use Rattle.protocol.proofs.Shared.{replaced, replaced_here, replaced_elsewhere, not_both, not_started, frame_stands, proposals_stay}
 
@@ -117,7 +117,7 @@ module _ {setting : Setting} {Earlier : Fact → Type 0} {before : System} (soun
         nodes = (
           λ other is_other. refl,
           keeps_place setting (history sound) (history_after sound after (WasStarted request)) node (with_next_version (before.nodes node)) change.nodes.here matches refl
-              (record { number = refl; members = refl; opening = refl; duty = omega arith; idle = λ idle. idle; newest = omega arith })
+              (keeps_status (omega arith))
               (omega arith) (inl refl) (omega arith) (inl refl),
         );
         requests_kept = old_requests_stay sound request;
