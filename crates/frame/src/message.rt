@@ -14,7 +14,7 @@ pub struct Head {
 }
 
 /// Which write a content comes from: the version, and the node that gave it. The opening content has version 0 and node 0.
-#[derive(Clone, Copy, Debug, PartialEq, Eq)]
+#[derive(Clone, Copy, Debug, PartialEq, Eq, PartialOrd, Ord)]
 pub struct Tag {
     pub version: u16,
     pub node: u8,

@@ -10,10 +10,12 @@ use std::fmt;
 /// The reason of a refusal.
 #[derive(Clone, Copy, Debug, PartialEq, Eq)]
 pub enum Refusal {
-    /// The frame table has no such slot.
+    /// The frame table has no such slot, or the slot is empty.
     NoSlot = 3,
     /// What is to be made lies outside the bounds of its kind.
     Unlawful = 13,
+    /// The frame table has fewer empty slots than frames are to be sent.
+    TooFewSlots = 19,
 }
 
 impl Refusal {
@@ -29,8 +31,9 @@ impl Refusal {
         ensures { result.now ≡ words self }
     {
         match self {
-            Refusal::NoSlot => "no such slot",
+            Refusal::NoSlot => "slot too high or empty",
             Refusal::Unlawful => "outside its bounds",
+            Refusal::TooFewSlots => "too few empty slots",
         }
     }
 }
