@@ -1,0 +1,4 @@
+pub mod Copies
+pub mod Members
+pub mod Moments
+pub mod Lawful
