@@ -1,0 +1,5 @@
+pub mod Numbered
+pub mod Replaced
+pub mod Filled
+pub mod Sending
+pub mod UnderWay
