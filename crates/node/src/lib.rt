@@ -1,0 +1,14 @@
+//! What a node does with a frame: judged on the tables as they are, into a plan, and then applied.
+#![tactic(auto)]
+
+mod acknowledging;
+mod applying;
+mod conditions;
+mod counting;
+mod joining;
+mod judging;
+mod plan;
+mod received;
+
+pub use judging::judge;
+pub use plan::{Plan, Reply, RowPlan};
