@@ -1,3 +1,5 @@
 pub mod Examples
 pub mod FrameExamples
 pub mod ChooserExamples
+pub mod NodeExamples
+pub mod TableExamples

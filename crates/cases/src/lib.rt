@@ -1,4 +1,4 @@
-//! The worked examples of docs/, proved as three lists (contents and quorum rules; frames; choosers and ballots), and run.
+//! The worked examples of docs/, proved as five lists (contents and quorum rules; frames; choosers and ballots; the host's tables; nodes), and run.
 #![tactic(auto)]
 
 ghost use Rattle.std.specs.Prelude.{◌≡◌, true};
@@ -6,10 +6,14 @@ ghost use Rattle.cases.specs.Examples.{WorkedExamples};
 ghost use Rattle.cases.specs.FrameExamples.{FrameExamples};
 
 mod choosers;
+mod host_tables;
+mod nodes;
 
 pub use choosers::{contested_ballot, first_offer_decided};
 use content::Content;
 use frame::SLOT;
+pub use host_tables::table_examples_stand;
+pub use nodes::node_examples_stand;
 use quorum::{Majority, QuorumRule, Weighted};
 use quote::Quote;
 use reader::check;
