@@ -277,6 +277,8 @@ pub record NodeExamples : Type 0 where
   pub update_again : at_node (joined_with version_5 4) (update_to 3) ≡ None
   pub update_again_at_idle_node : at_node (idle (joined_with version_5 4)) (update_to 3) ≡ keeps 3 (joined_with version_5 4)
   pub update_at_no_member : at_node node_2 (update_to 2) ≡ None
+  -- The stopped mark stays.
+  pub update_at_a_stopped_node : at_node (record node_4 { stopped = true }) (update_to 4) ≡ keeps 4 (record (joined_with version_4 4) { stopped = true })
   -- Applying a plan: the record is written over its node's, the row over its operation's, and the reply goes into the lowest empty slot. What a table has no place for is left out.
   pub record_written : with_record three_records 2 node_4 ≡ node_1 ∷ node_4 ∷ node_3 ∷ []
   pub no_record_of_node_0 : with_record three_records 0 node_4 ≡ three_records

@@ -63,6 +63,7 @@ examples = record {
   update_again = refl;
   update_again_at_idle_node = refl;
   update_at_no_member = refl;
+  update_at_a_stopped_node = refl;
   record_written = refl;
   no_record_of_node_0 = refl;
   no_record_of_node_4 = refl;
