@@ -40,8 +40,8 @@ impl Plan {
     }
 }
 
-// Writes the record of a node over the one that the table has; the first is node 1's.
-fn write_record(nodes: &mut [NodeRecord], node: u8, written: NodeRecord)
+/// Writes the record of a node over the one that the table has; the first is node 1's.
+pub fn write_record(nodes: &mut [NodeRecord], node: u8, written: NodeRecord)
     ensures { nodes.new ≡ with_record nodes.old node written }
 {
     let Some(place) = usize::from(node).checked_sub(1) else {
@@ -52,8 +52,8 @@ fn write_record(nodes: &mut [NodeRecord], node: u8, written: NodeRecord)
     }
 }
 
-// Writes the row of an operation over the one that the table has.
-fn write_row(rows: &mut [OperationRow], operation: u16, written: OperationRow)
+/// Writes the row of an operation over the one that the table has.
+pub fn write_row(rows: &mut [OperationRow], operation: u16, written: OperationRow)
     ensures { rows.new ≡ slice_set rows.old operation written }
 {
     let place = usize::from(operation);

@@ -10,5 +10,6 @@ mod judging;
 mod plan;
 mod received;
 
+pub use applying::{write_record, write_row};
 pub use judging::judge;
 pub use plan::{Plan, Reply, RowPlan};
