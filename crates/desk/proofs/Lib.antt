@@ -1,0 +1,9 @@
+pub mod Ranges
+pub mod LawfulLists
+pub mod MayOpen
+pub mod OpenedNodes
+pub mod Results
+pub mod Replaced
+pub mod KeptLawful
+pub mod OpenedLawful
+pub mod LawfulLeft
