@@ -1,0 +1,3 @@
+pub mod Proposing
+pub mod Settling
+pub mod Working
