@@ -28,7 +28,7 @@ module _ {C : Type 0} (width : ℕ) (meaning : C → List ℕ) (reads : List ℕ
       simp (length-append, length-replicate) (omega arith)
 
   -- a lawful message: its parts have their lengths, its numbers have 16 bits, and its bytes hold a frame of its kind
-  lawful_fits : (message : Said) → Lawful meaning message → fits width message ≡ true
+  pub lawful_fits : (message : Said) → Lawful meaning message → fits width message ≡ true
   lawful_fits message lawful = grind (arith, nat_tests, content_size width meaning reads laws)
 
   lawful_words : (message : Said) → Lawful meaning message → WordsFit message
@@ -52,7 +52,7 @@ module _ {C : Type 0} (width : ℕ) (meaning : C → List ℕ) (reads : List ℕ
       grind (arith, nat_tests)
   fields_pass message lawful = grind (arith, nat_tests, word_of_bytes)
 
-  written_reads_back : (message : Said) → Lawful meaning message → reading width reads (bytes_of message) ≡ Ok message
+  pub written_reads_back : (message : Said) → Lawful meaning message → reading width reads (bytes_of message) ≡ Ok message
   written_reads_back message lawful =
       let fitting = lawful_fits message lawful in
       let (pass, rest) = fields_pass message lawful in
