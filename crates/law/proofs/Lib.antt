@@ -1,0 +1,44 @@
+-- That calls are moves of the protocol
+pub mod Linked
+pub mod LeftStanding
+pub mod CallsStand
+pub mod StepsStand
+-- What single calls do
+pub mod Outcomes
+pub mod OpenedServes
+pub mod ClosedSteps
+pub mod Passing
+pub mod FramesFit
+pub mod Rows
+pub mod StartSteps
+pub mod Planned
+pub mod DeliverSteps
+pub mod OpenSteps
+pub mod PlansKeep
+pub mod HeldSteps
+pub mod Sizes
+-- What holds along a run
+pub mod Places
+pub mod RowFacts
+pub mod Opening
+pub mod Begun
+pub mod Told
+pub mod Systems
+-- The law
+pub mod Tags
+pub mod Looks
+pub mod RowsSaid
+pub mod AtEnd
+pub mod Effects
+pub mod Order
+pub mod ReadsGive
+pub mod KeepsTime
+pub mod OpenedOnce
+pub mod Holding
+pub mod Installing
+pub mod HeldSince
+pub mod Configurations
+pub mod AnswersStay
+pub mod CanLook
+pub mod KeptKinds
+pub mod OrderHolds
