@@ -1,34 +1,40 @@
-//! How bytes and sets of places are printed.
+//! How numbers, sets of places and bytes are printed: each behind a blank, so that an empty list leaves none.
 use std::fmt;
 
-/// Bytes, two digits each, a blank between two.
+/// Numbers of a byte.
 #[derive(Clone, Copy)]
-pub struct Hexadecimal<'a>(pub &'a [u8]);
+pub(crate) struct Numbers<'a>(pub &'a [u8]);
 
-impl fmt::Display for Hexadecimal<'_> {
+impl fmt::Display for Numbers<'_> {
     fn fmt<W: fmt::Write>(&self, f: &mut fmt::Formatter<W>) -> fmt::Result {
-        if let [first, others @ ..] = self.0 {
-            write!(f, "{first:02X}")?;
-            for byte in others {
-                write!(f, " {byte:02X}")?;
-            }
+        for number in self.0 {
+            write!(f, " {number}")?;
         }
         Ok(())
     }
 }
 
-/// The places of a set, a '+' between two.
+/// The places of a set.
 #[derive(Clone, Copy)]
-pub struct Places(pub u8);
+pub(crate) struct Places(pub u8);
 
 impl fmt::Display for Places {
     fn fmt<W: fmt::Write>(&self, f: &mut fmt::Formatter<W>) -> fmt::Result {
-        let mut places = (0..8u32).filter(|place| (self.0 >> *place) & 1 == 1);
-        if let Some(first) = places.next() {
-            write!(f, "{first}")?;
-            for place in places {
-                write!(f, "+{place}")?;
-            }
+        for place in (0..u8::BITS).filter(|place| (self.0 >> *place) & 1 == 1) {
+            write!(f, " {place}")?;
+        }
+        Ok(())
+    }
+}
+
+/// Bytes, two digits each.
+#[derive(Clone, Copy)]
+pub(crate) struct Hexadecimal<'a>(pub &'a [u8]);
+
+impl fmt::Display for Hexadecimal<'_> {
+    fn fmt<W: fmt::Write>(&self, f: &mut fmt::Formatter<W>) -> fmt::Result {
+        for byte in self.0 {
+            write!(f, " {byte:02X}")?;
         }
         Ok(())
     }
