@@ -1,4 +1,4 @@
-//! Ballots: how a value is decided under one number, by five acceptors. An instance of Paxos that the host drives step by step.
+//! Ballots: how a value is decided under one number, by five acceptors. The host drives it step by step.
 #![tactic(auto)]
 
 mod instance;

@@ -6,12 +6,12 @@ use Rattle.std.proofs.lemmas.Bool.Decides.{nat_tests}
 use Rattle.quorum.specs.Limits.{largest_group}
 use Rattle.frame.specs.Fields.{member_passes}
 use Rattle.frame.specs.Limits.{highest_node}
-use Rattle.frame.proofs.Members.{members_from_pass}
+use Rattle.frame.proofs.Members.{members_from_pass, member_passes_lawful}
 use Rattle.tables.specs.declared.members.Members.{Members}
 use Rattle.tables.specs.Lawful.{LawfulList}
 use Rattle.desk.specs.Tables.{one_to}
 use Rattle.desk.specs.Lists.{passes_at, all_pass, is_lawful}
-use Rattle.desk.proofs.Ranges.{all_before_next, each_of_all}
+use Rattle.desk.proofs.Ranges.{all_before_next, each_of_all, all_of_each}
 
 -- whether the numbers before a place of the seven are what they may be
 abbrev pub pass_before : Members → ℕ → ℕ → Bool
@@ -60,3 +60,14 @@ members_bounded members highest place taken inside =
     let below_seven : place < largest_group = grind (arith, nat_tests) in
     let passes = each_of_all (passes_at members highest) largest_group place pass below_seven in
     grind (arith, nat_tests, passes)
+
+-- Of a lawful list with no member above the highest node each number passes,
+pub lawful_pass : (members : Members) (highest : ℕ) → LawfulList members → ((place : ℕ) → place < members.count → slice_index members.nodes place ≤ highest)
+    → all_pass members highest ≡ true
+lawful_pass members highest lawful bounded =
+    all_of_each (passes_at members highest) largest_group
+    (λ place inside. grind (arith, nat_tests, member_passes_lawful members.count members.nodes lawful place inside, bounded place))
+
+-- and one to seven are counted.
+pub lawful_are_counted : (members : Members) → LawfulList members → one_to largest_group members.count ≡ true
+lawful_are_counted members lawful = grind (arith, nat_tests, lawful.counted)

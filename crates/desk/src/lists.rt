@@ -14,6 +14,7 @@ pub fn is_lawful(members: &Members, highest: u8) -> bool
     ensures is { result ≡ is_lawful members.now highest }
     ensures lawful { highest ≤ highest_node → result ≡ true → LawfulList members.now }
     ensures bounded { (place : ℕ) → result ≡ true → place < members.now.count → slice_index members.now.nodes place ≤ highest }
+    ensures only_others_fail { LawfulList members.now → ((place : ℕ) → place < members.now.count → slice_index members.now.nodes place ≤ highest) → result ≡ true }
 {
     all_pass(members, highest) && is_counted(members)
 }

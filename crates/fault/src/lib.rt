@@ -11,7 +11,7 @@ use refusal::Refusal;
 use std::error::Error;
 use std::fmt;
 
-/// Why a call on a floor stops. Two grounds may share a number where one call knows but one of them.
+/// Why a call on a floor stops. Where one number stands for two grounds, each is a case of its own: the call knows which it is.
 #[derive(Clone, Copy, Debug, PartialEq, Eq)]
 pub enum Fault {
     /// The floor was never opened.

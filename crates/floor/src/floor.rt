@@ -15,7 +15,8 @@ use std::marker::PhantomData;
 use tables::{Members, NodeRecord, OperationRow, ProposalRow};
 
 /// A floor keeps what the calls have to know of one sheet beside the host's tables, which are handed to every call: 16 node records, 1 to 4,096 operation rows, 1 to 256 slots of 32 bytes, and 1 to 128 proposal rows.
-/// A call stops at the first ground that holds, in the order of the grounds' numbers, and then changes nothing.
+/// A call stops at the first ground that holds, in the order of the grounds' numbers. Then it changes nothing; of a chooser that refused, no offer and no decision.
+/// Every call is refused with 1 if the floor is closed (an opening: if it is open already), and with 2 if a table's length is not allowed, or not that of the opening. Its other grounds stand with each call.
 #[derive(Drop)]
 pub struct Floor<C: Content, Q: QuorumRule + Drop, S: Chooser + Drop> {
     desk: Desk,
@@ -48,6 +49,7 @@ impl<C: Content, Q: QuorumRule + Drop, S: Chooser + Drop> Floor<C, Q, S> {
     }
 
     /// Opens the floor with nodes 1 to the count: configuration 0 with these members, and this content.
+    /// Refused with 7 if the count is not 1 to 16, with 13 if the members are no lawful list or one is above the count.
     pub fn open(
         &mut self,
         nodes: &mut [NodeRecord],
@@ -75,6 +77,7 @@ impl<C: Content, Q: QuorumRule + Drop, S: Chooser + Drop> Floor<C, Q, S> {
     }
 
     /// Starts a read at the primary of a group, and answers the number of its row.
+    /// Refused with 7 if there is no such node, with 8 if it has stopped, with 9 if it is idle, with 10 if it is frozen, with 11 if it is not the primary, with 17 if all operation rows are used, with 19 if there are fewer empty slots than members.
     pub fn read(
         &mut self,
         nodes: &[NodeRecord],
@@ -90,6 +93,7 @@ impl<C: Content, Q: QuorumRule + Drop, S: Chooser + Drop> Floor<C, Q, S> {
     }
 
     /// Starts a write at the primary of a group, and answers the number of its row.
+    /// Refused as a read is, and with 18 if the node's newest version is the last.
     pub fn write(
         &mut self,
         nodes: &mut [NodeRecord],
@@ -114,6 +118,7 @@ impl<C: Content, Q: QuorumRule + Drop, S: Chooser + Drop> Floor<C, Q, S> {
     }
 
     /// Starts a change of a node's group to new members, and answers the number of its row.
+    /// Refused with 7 if there is no such node, with 8 if it has stopped, with 9 if it is idle, with 13 if the members are no lawful list or one is above the node count, with 17 if all operation rows are used, with 19 if there are fewer empty slots than present members.
     pub fn regroup(
         &mut self,
         nodes: &mut [NodeRecord],
@@ -138,6 +143,7 @@ impl<C: Content, Q: QuorumRule + Drop, S: Chooser + Drop> Floor<C, Q, S> {
     }
 
     /// Proposes what a regroup gathered to the chooser, and answers the number of the proposal's row.
+    /// Refused with 5 if the operation was not started, with 6 if it is not open or no regroup, with 8 if its node has stopped, with 12 if that is no longer under the operation's number, with 14 if the places that froze do not win, with 20 if all proposal rows are used, with 21 if the chooser refuses.
     pub fn propose(
         &mut self,
         nodes: &[NodeRecord],
@@ -162,6 +168,7 @@ impl<C: Content, Q: QuorumRule + Drop, S: Chooser + Drop> Floor<C, Q, S> {
     }
 
     /// Sends what is decided under a node's number to its members, and answers how many they are.
+    /// Refused with 7 if there is no such node, with 8 if it has stopped, with 9 if it is idle, with 15 if nothing is decided under its number, with 16 if that is no used proposal row of the number, with 19 if there are fewer empty slots than members.
     pub fn settle(
         &self,
         nodes: &[NodeRecord],
@@ -185,6 +192,7 @@ impl<C: Content, Q: QuorumRule + Drop, S: Chooser + Drop> Floor<C, Q, S> {
     }
 
     /// Hands a step of work to the chooser.
+    /// Refused with 21 if the chooser refuses.
     pub fn work(
         &mut self,
         nodes: &[NodeRecord],
@@ -214,6 +222,7 @@ impl<C: Content, Q: QuorumRule + Drop, S: Chooser + Drop> Floor<C, Q, S> {
     }
 
     /// Delivers the frame in a slot to its receiver; the frame stays in its slot, and may be delivered again.
+    /// Refused with 3 if there is no such slot or it is empty, with 4 if it cannot be read, with 7 if the receiver is no node of the floor, with 8 if that has stopped, with 19 if no slot is empty for its reply.
     pub fn deliver(
         &mut self,
         nodes: &mut [NodeRecord],
@@ -237,6 +246,7 @@ impl<C: Content, Q: QuorumRule + Drop, S: Chooser + Drop> Floor<C, Q, S> {
     }
 
     /// Loses the frame in a slot.
+    /// Refused with 3 if there is no such slot or it is empty.
     pub fn lose(
         &self,
         nodes: &[NodeRecord],
@@ -252,6 +262,7 @@ impl<C: Content, Q: QuorumRule + Drop, S: Chooser + Drop> Floor<C, Q, S> {
     }
 
     /// Gives up an operation.
+    /// Refused with 5 if it was not started, with 6 if it is not open.
     pub fn give_up(
         &self,
         nodes: &[NodeRecord],
@@ -267,6 +278,7 @@ impl<C: Content, Q: QuorumRule + Drop, S: Chooser + Drop> Floor<C, Q, S> {
     }
 
     /// Stops a node.
+    /// Refused with 7 if there is no such node, with 8 if it has stopped already.
     pub fn stop(
         &self,
         nodes: &mut [NodeRecord],
@@ -282,6 +294,7 @@ impl<C: Content, Q: QuorumRule + Drop, S: Chooser + Drop> Floor<C, Q, S> {
     }
 
     /// Answers the row of an operation into the place that is handed along, which a refused look leaves as it was.
+    /// Refused with 5 if the operation was not started.
     pub fn look(
         &self,
         nodes: &[NodeRecord],
