@@ -1,5 +1,5 @@
 -- The slots of a table, as code cuts it, are its slots by their numbers; so counting and finding the empty ones there is what the definitions say.
-use Rattle.std.proofs.Common.{◌≡◌, ℕ, zero, suc, ◌+◌, ◌*◌, Bool, cond, eqb, ltb, List, [], ◌∷◌, length, map, get_or, drop, filter, Some, None, refl, arith}
+use Rattle.std.proofs.Common.{◌≡◌, ℕ, zero, suc, ◌+◌, ◌-◌, ◌*◌, ◌<◌, ◌≤◌, Bool, true, false, cond, eqb, ltb, List, [], ◌∷◌, length, map, get_or, drop, filter, Some, None, refl, arith}
 use Rattle.std.specs.List.{range_with_len, position, position_or_len, slice_get}
 use Rattle.std.specs.Simd.{first_chunks}
 use Rattle.std.proofs.lemmas.List.{drop-drop}
@@ -8,7 +8,7 @@ use Rattle.std.proofs.lemmas.Bool.{cases_Bool}
 use Rattle.std.proofs.lemmas.Bool.Decides.{nat_tests}
 use Rattle.frame.specs.Limits.{slot_size}
 use Rattle.writer.specs.Table.{slots, slot_of}
-use Rattle.slots.specs.Slots.{empty_count, lowest_empty}
+use Rattle.slots.specs.Slots.{is_empty, empty_count, lowest_empty}
 
 -- the table cut into slots
 abbrev pub chunks : List ℕ → List (List ℕ)
@@ -47,3 +47,19 @@ first_in_chunks table =
     let place = position_or_len begins_zero (map (slot_of table) (range_with_len 0 (slots table))) in
     let from_start : 0 + place ≡ place = omega arith in
     rw (chunks_are_slots, length-map-range_with_len, first_to_pass begins_zero (slot_of table) (slots table) 0, from_start)
+
+-- how many slots are empty from one on
+abbrev pub empty_from : List ℕ → ℕ → ℕ
+empty_from table slot = length (filter (is_empty table) (range_with_len slot (slots table - slot)))
+
+-- one that is empty is counted, and then those behind it
+pub counted_here : (table : List ℕ) (slot : ℕ) → slot < slots table → is_empty table slot ≡ true → empty_from table slot ≡ suc (empty_from table (slot + 1))
+counted_here table slot below empty = let more : slots table - slot ≡ suc (slots table - (slot + 1)) = omega arith in rw (more, empty) refl
+
+-- one that is not is passed over
+pub passed_here : (table : List ℕ) (slot : ℕ) → slot < slots table → is_empty table slot ≡ false → empty_from table slot ≡ empty_from table (slot + 1)
+passed_here table slot below full = let more : slots table - slot ≡ suc (slots table - (slot + 1)) = omega arith in rw (more, full) refl
+
+-- none stands behind the last
+pub none_behind : (table : List ℕ) (slot : ℕ) → slots table ≤ slot → empty_from table slot ≡ 0
+none_behind table slot past = let none : slots table - slot ≡ 0 = omega arith in rw none refl

@@ -25,6 +25,10 @@ empty_count table = length (empty_slots table)
 abbrev pub lowest_empty : List ℕ → Option ℕ
 lowest_empty table = slice_get (empty_slots table) 0
 
+-- no slot below a place is empty
+abbrev pub NoneBelow : List ℕ → ℕ → Type 0
+NoneBelow table place = (slot : ℕ) → slot < place → slot < slots table → is_empty table slot ≡ false
+
 -- whether this many frames find empty slots
 abbrev pub may_send : List ℕ → ℕ → Result (Unit {0}) Refusal
 may_send table count = if nat_lt (empty_count table) count then Err TooFewSlots else Ok tt

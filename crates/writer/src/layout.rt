@@ -19,8 +19,8 @@ pub(crate) fn write<C: Content>(slot: &mut [u8], message: Message<'_>)
     slot.copy_from_slice(&bytes_of::<C>(message));
 }
 
-// A message as the bytes of its slot.
-fn bytes_of<C: Content>(message: Message<'_>) -> [u8; SLOT]
+/// A message as the bytes of its slot.
+pub(crate) fn bytes_of<C: Content>(message: Message<'_>) -> [u8; SLOT]
     requires { fits C.width (says message) ≡ true }
     ensures { result ≡ bytes_of (says message.entry) }
 {

@@ -4,4 +4,4 @@
 mod layout;
 mod placing;
 
-pub use placing::place;
+pub use placing::{frame_of, place};

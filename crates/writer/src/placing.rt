@@ -3,9 +3,9 @@ ghost use Rattle.std.specs.Prelude.{◌≡◌, ◌<◌, Ok};
 ghost use Rattle.frame.specs.Bytes.{fits, WordsFit};
 ghost use Rattle.frame.specs.Lawful.{Lawful, ReadsBack};
 ghost use Rattle.frame.specs.Messages.{says};
-ghost use Rattle.writer.specs.Table.{slots, slot_of, placed};
+ghost use Rattle.writer.specs.Table.{slots, slot_of, frame_of, placed};
 
-use crate::layout::write;
+use crate::layout::{bytes_of, write};
 use content::Content;
 use frame::{Message, SLOT};
 use quorum::LARGEST_GROUP;
@@ -31,6 +31,16 @@ pub fn place<C: Content>(
     let start = slot * SLOT;
     write::<C>(&mut frames[start..start + SLOT], message);
     Ok(())
+}
+
+/// The 32 bytes of a message, for a sender that writes them to several slots; none where `place` refuses with 13.
+pub fn frame_of<C: Content>(message: Message<'_>) -> Option<[u8; SLOT]>
+    ensures { result ≡ frame_of C.width (says message.entry) }
+{
+    if !fits(message, C::width()) {
+        return None;
+    }
+    Some(bytes_of::<C>(message))
 }
 
 // Whether the message's parts have the lengths of their fields. That its numbers have 16 bits is known by their type.
