@@ -5,6 +5,7 @@ ghost use Rattle.law.specs.Runs.{parts, told, zero_told, number_told, row_told, 
 ghost use Rattle.delivery.specs.Delivery.{number};
 ghost use Rattle.desk.specs.Ending.{may_look};
 ghost use Rattle.desk.specs.Tables.{tables};
+ghost use Rattle.stopping.specs.Grounds.{StopsRightly};
 
 use calls::{Answer, Call};
 use chooser::Chooser;
@@ -27,7 +28,8 @@ pub fn make_call<C: Content, Q: QuorumRule + Drop, S: Chooser + Drop>(
     proposals: &mut [ProposalRow],
     call: &Call<C>,
 ) -> Result<Answer, Fault>
-    ensures { Step (parts C.width C.meaning C.reads Q.winning S.decided S.offering S.working) (state floor.old nodes.old operations.old frames.old proposals.old) call.now result (state floor.new nodes.new operations.new frames.new proposals.new) }
+    ensures does { Step (parts C.width C.meaning C.reads Q.winning S.decided S.offering S.working) (state floor.old nodes.old operations.old frames.old proposals.old) call.now result (state floor.new nodes.new operations.new frames.new proposals.new) }
+    ensures stops_rightly { StopsRightly (parts C.width C.meaning C.reads Q.winning S.decided S.offering S.working) (state floor.old nodes.old operations.old frames.old proposals.old) call.now result (state floor.new nodes.new operations.new frames.new proposals.new) }
 {
     match call {
         Call::Open {

@@ -10,7 +10,7 @@ pub loop-turn-preserved : goal.loop-turn-preserved
 loop-turn-preserved g c =
     let (played, same_calls) = c.loop-turn.invariant in (
       played_more (parts g.C.Content.width g.C.Content.meaning g.C.Content.reads g.Q.QuorumRule.winning g.S.Chooser.decided g.S.Chooser.offering g.S.Chooser.working)
-          _ _ _ c.loop-turn.turns c.loop-turn.turn-index _ c.make_call-answer.result (omega arith) played c.make_call-answer.ensures,
+          _ _ _ c.loop-turn.turns c.loop-turn.turn-index _ c.make_call-answer.result (omega arith) played c.make_call-answer.ensures.does,
       map-set_same _ _ _ _ _ refl ∙ same_calls,
     )
 
