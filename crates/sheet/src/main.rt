@@ -1,34 +1,34 @@
-//! Plays a schedule that stands on standard input: all calls of its sheets, one after the other, and prints what they answer.
+//! Plays a schedule that stands on standard input: makes all calls of its sheets, one after the other, and prints what they answer, or a chart of what they did.
 #![tactic(auto)]
 
-mod call_words;
-mod expected;
-mod header;
-mod host_tables;
-mod kind;
-mod line;
+mod charting;
+mod parts;
 mod playing;
 mod printing;
-mod sheets;
 mod shown_calls;
 mod shown_rows;
-#[cfg(test)]
-mod tests;
-mod text;
-mod words;
+mod task;
+mod watch;
 
-use playing::play_sheet;
-use sheets::{AnySheet, LineFault, take_line};
+use parts::perform;
+use script::{AnySheet, LineFault, take_line};
 use std::io;
 use std::process::ExitCode;
+use task::asked;
 
 fn main(rt: HostRuntime) -> io::Result<ExitCode> {
+    let Some(tasks) = asked(&rt)? else {
+        eprintln!(rt; "usage: sheet [play] [chart]")?;
+        return Ok(ExitCode::from(2));
+    };
     let mut sheets = Vec::new(rt.alloc());
     if !read_lines(&rt, &mut sheets)? {
         return Ok(ExitCode::FAILURE);
     }
-    for sheet in sheets {
-        play_sheet(&rt, sheet)?;
+    for task in tasks {
+        for (place, sheet) in sheets.iter_mut().enumerate() {
+            perform(&rt, task, place, sheet)?;
+        }
     }
     Ok(ExitCode::SUCCESS)
 }

@@ -1,20 +1,27 @@
 //! Printing a sheet that was played.
-use crate::host_tables::HostTables;
-use crate::kind::Kind;
-use crate::line::Table;
-use crate::sheets::Sheet;
 use crate::shown_calls::ShownTurn;
 use crate::shown_rows::in_kind;
-use crate::text::Hexadecimal;
+use content::Content;
 use desk::Desk;
 use frame::SLOT;
+use host::{HostTables, TableLengths};
+use script::{Hexadecimal, Sheet, Table};
+use std::fmt::Display;
 use std::io;
 
 /// The header, the tables' lengths if they are said, and each call with its answer.
-pub(crate) fn print_turns<C: Kind>(rt: &HostRuntime, sheet: &Sheet<C>) -> io::Result<()> {
-    println!(rt; "sheet {} {}", C::name(), sheet.header)?;
+pub(crate) fn print_turns<C: Content + Display>(
+    rt: &HostRuntime,
+    sheet: &Sheet<C>,
+) -> io::Result<()> {
+    println!(rt; "sheet {}", sheet.header)?;
     if let Some(lengths) = sheet.lengths {
-        println!(rt; "{lengths}")?;
+        let TableLengths {
+            operations,
+            slots,
+            proposals,
+        } = lengths;
+        println!(rt; "tables {operations} {slots} {proposals}")?;
     }
     for turn in sheet.turns.iter() {
         println!(rt; "{}", ShownTurn(turn))?;
@@ -23,7 +30,7 @@ pub(crate) fn print_turns<C: Kind>(rt: &HostRuntime, sheet: &Sheet<C>) -> io::Re
 }
 
 /// The line that asks for a table, and its records, rows or frames that are in use.
-pub(crate) fn print_table<C: Kind>(
+pub(crate) fn print_table<C: Content + Display>(
     rt: &HostRuntime,
     table: Table,
     tables: &HostTables,
@@ -38,21 +45,33 @@ pub(crate) fn print_table<C: Kind>(
     }
 }
 
-fn print_nodes<C: Kind>(rt: &HostRuntime, tables: &HostTables, count: u8) -> io::Result<()> {
+fn print_nodes<C: Content + Display>(
+    rt: &HostRuntime,
+    tables: &HostTables,
+    count: u8,
+) -> io::Result<()> {
     for (node, record) in (1..=count).zip(tables.nodes.iter()) {
         println!(rt; "node {node} {}", in_kind::<C, _>(record))?;
     }
     Ok(())
 }
 
-fn print_operations<C: Kind>(rt: &HostRuntime, tables: &HostTables, used: u16) -> io::Result<()> {
+fn print_operations<C: Content + Display>(
+    rt: &HostRuntime,
+    tables: &HostTables,
+    used: u16,
+) -> io::Result<()> {
     for (operation, row) in (0..used).zip(tables.operations.iter()) {
         println!(rt; "operation {operation} {}", in_kind::<C, _>(row))?;
     }
     Ok(())
 }
 
-fn print_proposals<C: Kind>(rt: &HostRuntime, tables: &HostTables, used: u8) -> io::Result<()> {
+fn print_proposals<C: Content + Display>(
+    rt: &HostRuntime,
+    tables: &HostTables,
+    used: u8,
+) -> io::Result<()> {
     for (proposal, row) in (0..used).zip(tables.proposals.iter()) {
         println!(rt; "proposal {proposal} {}", in_kind::<C, _>(row))?;
     }

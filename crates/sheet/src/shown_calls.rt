@@ -1,16 +1,17 @@
 //! How calls and their answers are printed.
-use crate::kind::Kind;
 use crate::shown_rows::in_kind;
-use crate::text::Numbers;
 use calls::{Answer, Call, Turn};
+use content::Content;
+use script::Numbers;
 use std::fmt;
+use std::fmt::Display;
 use tables::OperationRow;
 
 /// A call with what it was answered.
 #[derive(Drop)]
-pub(crate) struct ShownTurn<'a, C: Kind>(pub &'a Turn<C>);
+pub(crate) struct ShownTurn<'a, C: Content>(pub &'a Turn<C>);
 
-impl<C: Kind> fmt::Display for ShownTurn<'_, C> {
+impl<C: Content + Display> fmt::Display for ShownTurn<'_, C> {
     fn fmt<W: fmt::Write>(&self, f: &mut fmt::Formatter<W>) -> fmt::Result {
         let call = ShownCall(&self.0.call);
         match &self.0.answer {
@@ -28,9 +29,9 @@ impl<C: Kind> fmt::Display for ShownTurn<'_, C> {
 
 // A call, as a schedule has it.
 #[derive(Drop)]
-struct ShownCall<'a, C: Kind>(&'a Call<C>);
+struct ShownCall<'a, C: Content>(&'a Call<C>);
 
-impl<C: Kind> fmt::Display for ShownCall<'_, C> {
+impl<C: Content + Display> fmt::Display for ShownCall<'_, C> {
     fn fmt<W: fmt::Write>(&self, f: &mut fmt::Formatter<W>) -> fmt::Result {
         match self.0 {
             Call::Open {

@@ -1,8 +1,9 @@
 //! How the records and rows of the host's tables are printed.
-use crate::kind::Kind;
-use crate::text::{Hexadecimal, Numbers, Places};
+use content::Content;
 use frame::Tag;
+use script::{Hexadecimal, Numbers, Places};
 use std::fmt;
+use std::fmt::Display;
 use std::marker::PhantomData;
 use tables::{
     NodeRecord, OperationKind, OperationRow, OperationState, ProposalRow, SheetCopy, Status,
@@ -10,13 +11,13 @@ use tables::{
 
 /// A record or a row, whose contents are printed in the words of a kind.
 #[derive(Drop)]
-pub(crate) struct InKind<'a, C: Kind, T> {
+pub(crate) struct InKind<'a, C: Content, T> {
     value: &'a T,
     kind: PhantomData<C>,
 }
 
 /// The value in the words of a kind.
-pub(crate) fn in_kind<C: Kind, T>(value: &T) -> InKind<'_, C, T> {
+pub(crate) fn in_kind<C: Content, T>(value: &T) -> InKind<'_, C, T> {
     InKind {
         value,
         kind: PhantomData,
@@ -24,7 +25,7 @@ pub(crate) fn in_kind<C: Kind, T>(value: &T) -> InKind<'_, C, T> {
 }
 
 /// A copy's content. Bytes that are no content of the kind are printed as they are.
-impl<C: Kind> fmt::Display for InKind<'_, C, SheetCopy> {
+impl<C: Content + Display> fmt::Display for InKind<'_, C, SheetCopy> {
     fn fmt<W: fmt::Write>(&self, f: &mut fmt::Formatter<W>) -> fmt::Result {
         let bytes = &self.value.content[..C::width()];
         match C::from_bytes(bytes) {
@@ -34,7 +35,7 @@ impl<C: Kind> fmt::Display for InKind<'_, C, SheetCopy> {
     }
 }
 
-impl<C: Kind> fmt::Display for InKind<'_, C, OperationRow> {
+impl<C: Content + Display> fmt::Display for InKind<'_, C, OperationRow> {
     fn fmt<W: fmt::Write>(&self, f: &mut fmt::Formatter<W>) -> fmt::Result {
         let row = self.value;
         write!(
@@ -54,7 +55,7 @@ impl<C: Kind> fmt::Display for InKind<'_, C, OperationRow> {
     }
 }
 
-impl<C: Kind> fmt::Display for InKind<'_, C, NodeRecord> {
+impl<C: Content + Display> fmt::Display for InKind<'_, C, NodeRecord> {
     fn fmt<W: fmt::Write>(&self, f: &mut fmt::Formatter<W>) -> fmt::Result {
         let record = self.value;
         write!(
@@ -74,7 +75,7 @@ impl<C: Kind> fmt::Display for InKind<'_, C, NodeRecord> {
     }
 }
 
-impl<C: Kind> fmt::Display for InKind<'_, C, ProposalRow> {
+impl<C: Content + Display> fmt::Display for InKind<'_, C, ProposalRow> {
     fn fmt<W: fmt::Write>(&self, f: &mut fmt::Formatter<W>) -> fmt::Result {
         let row = self.value;
         write!(

@@ -5,6 +5,7 @@ use crate::kind::Kind;
 use crate::words::Words;
 use calls::Call;
 use content::Content;
+use host::TableLengths;
 use std::fmt;
 
 /// What a line says.
@@ -15,17 +16,9 @@ pub(crate) enum Line<C: Content> {
     Show(Table),
 }
 
-/// How many rows and slots the host's tables have.
-#[derive(Clone, Copy)]
-pub(crate) struct TableLengths {
-    pub operations: u16,
-    pub slots: u16,
-    pub proposals: u16,
-}
-
 /// One of the host's tables.
 #[derive(Clone, Copy)]
-pub(crate) enum Table {
+pub enum Table {
     Nodes,
     Operations,
     Frames,
@@ -36,7 +29,7 @@ impl<C: Kind> Line<C> {
     /// The line whose first word is this, from the words behind it.
     pub(crate) fn read(first: &str, words: &mut Words<'_>) -> Result<Line<C>, Expected> {
         let line = match first {
-            "tables" => Line::Tables(TableLengths::read(words)?),
+            "tables" => Line::Tables(table_lengths(words)?),
             "show" => Line::Show(Table::read(words)?),
             _ => Line::Call(read_call(first, words)?),
         };
@@ -45,14 +38,12 @@ impl<C: Kind> Line<C> {
     }
 }
 
-impl TableLengths {
-    fn read(words: &mut Words<'_>) -> Result<TableLengths, Expected> {
-        Ok(TableLengths {
-            operations: words.two_bytes("OPERATIONS")?,
-            slots: words.two_bytes("SLOTS")?,
-            proposals: words.two_bytes("PROPOSALS")?,
-        })
-    }
+fn table_lengths(words: &mut Words<'_>) -> Result<TableLengths, Expected> {
+    Ok(TableLengths {
+        operations: words.two_bytes("OPERATIONS")?,
+        slots: words.two_bytes("SLOTS")?,
+        proposals: words.two_bytes("PROPOSALS")?,
+    })
 }
 
 impl Table {
@@ -64,16 +55,6 @@ impl Table {
             Some("proposals") => Ok(Table::Proposals),
             _ => Err(Expected::Words("nodes, operations, frames or proposals")),
         }
-    }
-}
-
-impl fmt::Display for TableLengths {
-    fn fmt<W: fmt::Write>(&self, f: &mut fmt::Formatter<W>) -> fmt::Result {
-        write!(
-            f,
-            "tables {} {} {}",
-            self.operations, self.slots, self.proposals
-        )
     }
 }
 

@@ -7,14 +7,14 @@ use std::fmt;
 
 /// What the sheet's contents are.
 #[derive(Clone, Copy)]
-pub(crate) enum KindName {
+pub enum KindName {
     Quote,
     Curve,
 }
 
 /// A rule as it is named. The weights are kept beside the rule, which does not show them.
 #[derive(Clone, Copy)]
-pub(crate) enum NamedRule {
+pub enum NamedRule {
     Majority,
     Weighted {
         weights: [u8; LARGEST_GROUP],
@@ -24,20 +24,21 @@ pub(crate) enum NamedRule {
 
 /// A chooser as it is named.
 #[derive(Clone, Copy)]
-pub(crate) enum NamedChooser {
+pub enum NamedChooser {
     Ledger,
     Synod(NamedRule),
 }
 
-/// What stands behind the kind.
+/// What stands behind the word `sheet`.
 #[derive(Clone, Copy)]
-pub(crate) struct Header {
+pub struct Header {
+    pub kind: KindName,
     pub rule: NamedRule,
     pub chooser: NamedChooser,
 }
 
 impl KindName {
-    pub(crate) fn read(words: &mut Words<'_>) -> Result<KindName, Expected> {
+    fn read(words: &mut Words<'_>) -> Result<KindName, Expected> {
         match words.word() {
             Some("quote") => Ok(KindName::Quote),
             Some("curve") => Ok(KindName::Curve),
@@ -48,10 +49,15 @@ impl KindName {
 
 impl Header {
     pub(crate) fn read(words: &mut Words<'_>) -> Result<Header, Expected> {
+        let kind = KindName::read(words)?;
         let rule = NamedRule::read(words)?;
         let chooser = NamedChooser::read(words)?;
         words.end()?;
-        Ok(Header { rule, chooser })
+        Ok(Header {
+            kind,
+            rule,
+            chooser,
+        })
     }
 }
 
@@ -85,7 +91,16 @@ impl NamedChooser {
 
 impl fmt::Display for Header {
     fn fmt<W: fmt::Write>(&self, f: &mut fmt::Formatter<W>) -> fmt::Result {
-        write!(f, "{} {}", self.rule, self.chooser)
+        write!(f, "{} {} {}", self.kind, self.rule, self.chooser)
+    }
+}
+
+impl fmt::Display for KindName {
+    fn fmt<W: fmt::Write>(&self, f: &mut fmt::Formatter<W>) -> fmt::Result {
+        f.write_str(match self {
+            KindName::Quote => "quote",
+            KindName::Curve => "curve",
+        })
     }
 }
 

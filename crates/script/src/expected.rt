@@ -4,7 +4,7 @@ use std::fmt;
 
 /// What was expected. Numbers go by the names that the document on schedules gives them.
 #[derive(Clone, Copy, Debug)]
-pub(crate) enum Expected {
+pub enum Expected {
     /// a number of one byte
     Byte(&'static str),
     /// a number of two bytes

@@ -3,7 +3,7 @@ use std::fmt;
 
 /// Numbers of a byte.
 #[derive(Clone, Copy)]
-pub(crate) struct Numbers<'a>(pub &'a [u8]);
+pub struct Numbers<'a>(pub &'a [u8]);
 
 impl fmt::Display for Numbers<'_> {
     fn fmt<W: fmt::Write>(&self, f: &mut fmt::Formatter<W>) -> fmt::Result {
@@ -16,7 +16,7 @@ impl fmt::Display for Numbers<'_> {
 
 /// The places of a set.
 #[derive(Clone, Copy)]
-pub(crate) struct Places(pub u8);
+pub struct Places(pub u8);
 
 impl fmt::Display for Places {
     fn fmt<W: fmt::Write>(&self, f: &mut fmt::Formatter<W>) -> fmt::Result {
@@ -29,7 +29,7 @@ impl fmt::Display for Places {
 
 /// Bytes, two digits each.
 #[derive(Clone, Copy)]
-pub(crate) struct Hexadecimal<'a>(pub &'a [u8]);
+pub struct Hexadecimal<'a>(pub &'a [u8]);
 
 impl fmt::Display for Hexadecimal<'_> {
     fn fmt<W: fmt::Write>(&self, f: &mut fmt::Formatter<W>) -> fmt::Result {

@@ -4,22 +4,14 @@ use crate::words::Words;
 use content::Content;
 use curve::Curve;
 use quote::Quote;
-use std::fmt::Display;
 
-/// A kind of content that a schedule knows: it prints itself as it is read.
-pub(crate) trait Kind: Content + Display {
-    /// The kind's name.
-    fn name() -> &'static str;
-
+/// A kind of content that a schedule knows.
+pub(crate) trait Kind: Content {
     /// A content, from the words that come.
     fn read(words: &mut Words<'_>) -> Result<Self, Expected>;
 }
 
 impl Kind for Quote {
-    fn name() -> &'static str {
-        "quote"
-    }
-
     fn read(words: &mut Words<'_>) -> Result<Quote, Expected> {
         let expected = Expected::Words("BID and ASK, two numbers 0 to 4294967295, BID at most ASK");
         let bid = words.number(expected)?;
@@ -29,10 +21,6 @@ impl Kind for Quote {
 }
 
 impl Kind for Curve {
-    fn name() -> &'static str {
-        "curve"
-    }
-
     fn read(words: &mut Words<'_>) -> Result<Curve, Expected> {
         let expected = Expected::Words("four rates, numbers -2147483648 to 2147483647");
         let first = words.number(expected)?;

@@ -1,0 +1,3 @@
+pub mod Arrows
+pub mod Events
+pub mod Decisions
