@@ -1,10 +1,10 @@
 -- The worked examples of docs/choosers.md and docs/ballots.md, as equations of the definitions that the library's contracts cite.
-use Rattle.std.specs.Prelude.{◌≡◌, ℕ, List, [], ◌∷◌, ◌++◌, map, replicate, Option, Some, None, Ok, Err}
+use Rattle.std.specs.Prelude.{◌≡◌, ℕ, List, [], ◌∷◌, ◌++◌, map, replicate, codes, Option, Some, None, Ok, Err}
 use Rattle.chooser.specs.declared.calls.Call.{Call}
 use Rattle.chooser.specs.declared.calls.Call.TheVariants.{Offer, Work}
 use Rattle.chooser.specs.declared.refusal.ChooserRefusal.TheVariants.{TooHigh, Full, NotAllowed}
 use Rattle.chooser.specs.Meaning.{OfferLists, Answer, no_offers, offers_at, decision_at, offer_answer, lists_with}
-use Rattle.chooser.specs.Refusals.{refusal_number}
+use Rattle.chooser.specs.Refusals.{refusal_number, shown_refusal}
 use Rattle.ledger.specs.Ledger.{firsts}
 use Rattle.quorum.specs.Rules.{more_than_half}
 use Rattle.ballots.specs.Limits.{acceptors}
@@ -72,6 +72,7 @@ pub record ChooserExamples : Type 0 where
   pub first_is_decided : decision_at (firsts (lists_after (4 ∷ 9 ∷ []) no_offers)) 0 ≡ Some 4
   pub ninth_is_refused : offer_answer (lists_after (1 ∷ 2 ∷ 3 ∷ 4 ∷ 5 ∷ 6 ∷ 7 ∷ 8 ∷ []) no_offers) 0 ≡ Err Full
   pub first_of_nine_is_decided : decision_at (firsts (lists_after (1 ∷ 2 ∷ 3 ∷ 4 ∷ 5 ∷ 6 ∷ 7 ∷ 8 ∷ 9 ∷ []) no_offers)) 0 ≡ Some 1
+  pub eighth_is_taken : offer_answer (lists_after (1 ∷ 2 ∷ 3 ∷ 4 ∷ 5 ∷ 6 ∷ 7 ∷ []) no_offers) 0 ≡ Ok tt
   -- The contested ballot: the second accept by 2 and the count of ballot 1 are refused with 3, all else is taken.
   pub contested_answers : answers_to by_majority contested ≡ (replicate 12 taken ++ (refused ∷ replicate 4 taken)) ++ (refused ∷ taken ∷ [])
   -- Ballot 1 is fixed at its own offer 9; ballot 2 takes 9 over, and not its own offer 6. 9 is decided, and nothing before the count of ballot 2.
@@ -94,6 +95,9 @@ pub record ChooserExamples : Type 0 where
   pub not_fixed_again : next_answer second_fixed (Work 0 2 2 0b11100) ≡ refused ∷ []
   pub counted_again : next_answer contested (Work 0 4 2 0b11100) ≡ taken ∷ []
   pub decided_as_before : decided_after (contested ++ (Work 0 4 2 0b11100 ∷ [])) ≡ Some 9
+  -- Ballot 15 is the last: it belongs to the eighth offer. Number 15 is the last one.
+  pub last_ballot_is_the_eighths : ballot_after (map (Offer 0) (1 ∷ 2 ∷ 3 ∷ 4 ∷ 5 ∷ 6 ∷ 7 ∷ 8 ∷ []) ++ by_three 15) 15 ≡ Some 8
+  pub number_15_is_there : next_answer [] (Offer 15 4) ≡ taken ∷ []
   -- There is no ballot 0, no ballot 16, no sixth acceptor and no fifth step; and above number 15 all is refused with 1.
   pub no_ballot_0 : next_answer two_ballots (Work 0 1 0 0b00100) ≡ refused ∷ []
   pub no_ballot_16 : next_answer two_ballots (Work 0 1 16 0b00100) ≡ refused ∷ []
@@ -101,3 +105,4 @@ pub record ChooserExamples : Type 0 where
   pub no_fifth_step : next_answer two_ballots (Work 0 5 1 0b00100) ≡ refused ∷ []
   pub no_number_16 : next_answer two_ballots (Work 16 5 0 0b100000) ≡ Some (Err TooHigh) ∷ []
   pub numbers_of_refusals : map refusal_number (TooHigh ∷ Full ∷ NotAllowed ∷ []) ≡ 1 ∷ 2 ∷ 3 ∷ []
+  pub refusals_printed : map shown_refusal (TooHigh ∷ Full ∷ NotAllowed ∷ []) ≡ codes "1: number above 15" ∷ codes "2: eight offers stand" ∷ codes "3: step not allowed" ∷ []

@@ -1,5 +1,5 @@
 -- The worked examples of docs/frames.md, as equations of the definitions that the library's contracts cite.
-use Rattle.std.specs.Prelude.{◌≡◌, ℕ, List, [], ◌∷◌, ◌++◌, length, replicate, take, Ok, Err, Result, ◌≢◌, slice_set}
+use Rattle.std.specs.Prelude.{◌≡◌, ℕ, List, [], ◌∷◌, ◌++◌, length, replicate, take, map, codes, Ok, Err, Result, ◌≢◌, slice_set}
 use Rattle.refusal.specs.declared.Refusal.TheVariants.{NoSlot, Unlawful}
 use Rattle.refusal.specs.Numbers.{number}
 use Rattle.quote.specs.Quote.{quote_read}
@@ -10,7 +10,10 @@ use Rattle.frame.specs.declared.message.Head.{Head}
 use Rattle.frame.specs.declared.message.Tag.{Tag}
 use Rattle.frame.specs.Bytes.{bytes_of}
 use Rattle.frame.specs.Check.{checked}
-use Rattle.frame.specs.Faults.{fault}
+use Rattle.frame.specs.Faults.{fault, number as cause_number, shown_fault}
+use Rattle.frame.specs.Kinds.{kind_number, shown_kind}
+use Rattle.frame.specs.declared.kind.FrameKind.{FrameKind}
+use Rattle.frame.specs.declared.kind.FrameKind.TheVariants.{Get, GetAck, Put, PutAck, Freeze, Held, Update}
 use Rattle.frame.specs.Messages.{Said, get, put, update}
 use Rattle.writer.specs.Layout.{laid}
 use Rattle.writer.specs.Table.{placed}
@@ -50,6 +53,10 @@ quote_checked slot = checked 8 quote_read slot
 abbrev pub curve_checked : List ℕ → Result (ℕ × ℕ) FrameFault
 curve_checked slot = checked 16 curve_read slot
 
+-- the kinds of frame
+abbrev pub kinds : List FrameKind
+kinds = Get ∷ GetAck ∷ Put ∷ PutAck ∷ Freeze ∷ Held ∷ Update ∷ []
+
 pub record FrameExamples : Type 0 where
   -- Four frames: a get, a put and two updates; how they are written, and their kinds and lengths.
   pub get_written : bytes_of (get from_1_to_2 1) ≡ a_get
@@ -60,6 +67,11 @@ pub record FrameExamples : Type 0 where
   pub update_checked : quote_checked an_update ≡ Ok (7, 23)
   pub curve_update_written : bytes_of (update_of bytes_of_curve) ≡ a_curve_update
   pub curve_update_checked : curve_checked a_curve_update ≡ Ok (7, 31)
+  -- The numbers of all kinds and their names, the numbers of the causes, and how a fault is printed.
+  pub kinds_numbered : map kind_number kinds ≡ 1 ∷ 2 ∷ 3 ∷ 4 ∷ 5 ∷ 6 ∷ 7 ∷ []
+  pub kinds_printed : map shown_kind kinds ≡ codes "get" ∷ codes "get-ack" ∷ codes "put" ∷ codes "put-ack" ∷ codes "freeze" ∷ codes "held" ∷ codes "update" ∷ []
+  pub causes_numbered : map cause_number (Kind ∷ Field ∷ Content ∷ Rest ∷ []) ≡ 1 ∷ 2 ∷ 3 ∷ 4 ∷ []
+  pub fault_printed : shown_fault (fault Field 8) ≡ codes "cause 2 (field), offset 8"
   -- No slice but one of 32 bytes is a frame. Kind 8 is none, and an empty slot holds none, whatever follows. The rest is one field, the last.
   pub other_length : (slot : List ℕ) → (length slot ≢ 32) → quote_checked slot ≡ Err (fault Rest 0)
   pub kind_eight : (rest : List ℕ) → length rest ≡ 31 → quote_checked (8 ∷ rest) ≡ Err (fault Kind 0)

@@ -1,14 +1,18 @@
-//! The worked examples of docs/, proved as five lists (contents and quorum rules; frames; choosers and ballots; the host's tables; nodes), and run.
+//! The worked examples of docs/, proved as one list, `AllExamples`, and run; each page's examples are a part of it (contents and quorum rules; frames; choosers and ballots; the host's tables; nodes; calls).
 #![tactic(auto)]
 
 ghost use Rattle.std.specs.Prelude.{◌≡◌, true};
 ghost use Rattle.cases.specs.Examples.{WorkedExamples};
 ghost use Rattle.cases.specs.FrameExamples.{FrameExamples};
 
+mod all;
+mod calls;
 mod choosers;
 mod host_tables;
 mod nodes;
 
+pub use all::worked_examples;
+pub use calls::call_examples_stand;
 pub use choosers::{contested_ballot, first_offer_decided};
 use content::Content;
 use frame::SLOT;

@@ -1,4 +1,5 @@
 use Rattle.std.proofs.Common.{◌∷◌, length, refl, ap, arith}
+use Rattle.std.specs.Fmt.{digits}
 use native.Mathlib.Decide.{dec_le, dec_lt}
 use Rattle.std.proofs.lemmas.Bool.{cond-true, cond-false, eq-eqb, ne_eqb}
 use Rattle.frame.specs.Check.{numbered}
@@ -6,7 +7,7 @@ use Rattle.cases.specs.FrameExamples.{FrameExamples}
 use Rattle.cases.proofs.frame_examples_stand.Goals as goal
 
 examples : FrameExamples
-unfolding dec_le dec_lt
+unfolding dec_le dec_lt digits
 examples = record {
   get_written = refl;
   get_checked = refl;
@@ -16,6 +17,10 @@ examples = record {
   update_checked = refl;
   curve_update_written = refl;
   curve_update_checked = refl;
+  kinds_numbered = refl;
+  kinds_printed = refl;
+  causes_numbered = refl;
+  fault_printed = refl;
   other_length = λ slot other. ap numbered (cond-false _ _ _ (ne_eqb (length slot) 32 other));
   kind_eight = λ rest long. ap numbered (cond-true _ _ _ (eq-eqb (length (8 ∷ rest)) 32 (omega arith)));
   empty_slot = λ rest long. ap numbered (cond-true _ _ _ (eq-eqb (length (0 ∷ rest)) 32 (omega arith)));

@@ -1,4 +1,5 @@
 use Rattle.std.proofs.Common.{◌≡◌, refl, ap, ◌∙◌}
+use Rattle.std.specs.Fmt.{digits}
 use native.Mathlib.Decide.{dec_le, dec_lt}
 use lib.Count.{ones, ones_in}
 use Rattle.chooser.specs.Meaning.{decision_at}
@@ -8,12 +9,13 @@ use Rattle.cases.specs.ChooserExamples.{ChooserExamples, by_majority, contested}
 use Rattle.cases.proofs.choosers.contested_ballot.Goals as goal
 
 examples : ChooserExamples
-unfolding dec_le dec_lt ones ones_in
+unfolding dec_le dec_lt ones ones_in digits
 examples = record {
   both_stand = refl;
   first_is_decided = refl;
   ninth_is_refused = refl;
   first_of_nine_is_decided = refl;
+  eighth_is_taken = refl;
   contested_answers = refl;
   first_has_its_offer = refl;
   second_takes_over = refl;
@@ -30,12 +32,15 @@ examples = record {
   not_fixed_again = refl;
   counted_again = refl;
   decided_as_before = refl;
+  last_ballot_is_the_eighths = refl;
+  number_15_is_there = refl;
   no_ballot_0 = refl;
   no_ballot_16 = refl;
   no_sixth_acceptor = refl;
   no_fifth_step = refl;
   no_number_16 = refl;
   numbers_of_refusals = refl;
+  refusals_printed = refl;
 }
 
 pub returns-clause-listed : goal.returns-clause-listed
