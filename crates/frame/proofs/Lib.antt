@@ -4,6 +4,7 @@ pub mod Members
 pub mod Laws
 pub mod Copies
 pub mod Passing
+pub mod Checked
 pub mod ToldBack
 pub mod WrittenReads
 pub mod ReadWritten

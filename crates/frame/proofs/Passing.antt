@@ -23,20 +23,34 @@ module _ {C : Type 0} (width : ℕ) (reads : List ℕ → Option C) (slot : List
   abbrev pub Told : Said → Type 0
   Told message = (kind : FrameKind) × (Holds width reads slot kind × (told width slot kind ≡ message))
 
-  told_of_kind : (kind : Result FrameKind FrameFault) (message : Said) → length slot ≡ slot_size → kind_from (byte_at slot 0) ≡ kind
-      → told_if width slot (checked_as width reads slot kind) ≡ Ok message → Told message
-  told_of_kind (Ok kind) message long first same =
-      let pass = (runs_exactly (kind_runs width reads slot kind)).0 (grind arith) in
+  -- the slot holds a frame of a kind, as which this is found
+  abbrev pub Found : FrameKind × ℕ → Type 0
+  Found x = (kind : FrameKind) × (Holds width reads slot kind × ((kind, kind_takes width kind) ≡ x))
+
+  found_of_kind : (kind : Result FrameKind FrameFault) (x : FrameKind × ℕ) → length slot ≡ slot_size → kind_from (byte_at slot 0) ≡ kind
+      → checked_as width reads slot kind ≡ Ok x → Found x
+  found_of_kind (Ok kind) x long first same =
+      let (pass, _) = (runs_exactly {X = Unit {0}} (kind_runs width reads slot kind) tt tt).0 (grind arith) in
       (kind, (record { long = long; first = first; pass = pass; rest = grind arith }, grind arith))
-  told_of_kind (Err fault) message long first same = cc
+  found_of_kind (Err fault) x long first same = cc
+
+  -- whatever is found is held
+  pub holds_from_found : (x : FrameKind × ℕ) → frame_in width reads slot ≡ Ok x → Found x
+  holds_from_found x same =
+      let long : length slot ≡ slot_size = grind (arith, nat_tests) in
+      found_of_kind (kind_from (byte_at slot 0)) x long refl (rw (eq-eqb (length slot) slot_size long) at same)
+
+  told_of : (found : Result (FrameKind × ℕ) FrameFault) (message : Said) → frame_in width reads slot ≡ found → told_if width slot found ≡ Ok message → Told message
+  told_of (Ok x) message is same =
+      let (kind, (holds, found)) = holds_from_found x is in
+      (kind, (holds, grind arith))
+  told_of (Err fault) message is same = cc
 
   -- whatever is read was told
   pub told_from_read : (message : Said) → reading width reads slot ≡ Ok message → Told message
-  told_from_read message same =
-      let long : length slot ≡ slot_size = grind (arith, nat_tests) in
-      told_of_kind (kind_from (byte_at slot 0)) message long refl (rw (eq-eqb (length slot) slot_size long) at same)
+  told_from_read message same = told_of (frame_in width reads slot) message refl same
 
   -- and what the slot holds is found
   pub found_from_holds : (kind : FrameKind) → Holds width reads slot kind → frame_in width reads slot ≡ Ok (kind, kind_takes width kind)
   found_from_holds kind held =
-      rw (eq-eqb (length slot) slot_size held.long, held.first, (runs_exactly (kind_runs width reads slot kind)).1 held.pass, held.rest)
+      rw (eq-eqb (length slot) slot_size held.long, held.first, (runs_exactly {X = Unit {0}} (kind_runs width reads slot kind) tt tt).1 (held.pass, refl), held.rest)

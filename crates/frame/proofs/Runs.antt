@@ -1,5 +1,5 @@
--- Every field passes exactly if the judgement is the answer and no fault.
-use Rattle.std.proofs.Common.{◌≡◌, ◌↔◌, true, List, [], ◌∷◌, Ok, refl, arith}
+-- Every field passes exactly if the judgement is the answer that was to be given, and no fault.
+use Rattle.std.proofs.Common.{◌≡◌, ◌↔◌, true, List, [], ◌∷◌, Ok, arith}
 use Rattle.std.specs.List.{AllByRecursion}
 use Rattle.frame.specs.Fields.{Test, judged, judged_runs}
 
@@ -10,10 +10,10 @@ Pass tests = AllByRecursion (λ (test : Test). test.passes ≡ true) tests
 abbrev pub PassAll : List (List Test) → Type 0
 PassAll runs = AllByRecursion Pass runs
 
-pub judged_exactly : (tests : List Test) → (judged {X = Unit {0}} tests tt ≡ Ok tt) ↔ Pass tests
-judged_exactly [] = (λ _. tt, λ _. refl)
-judged_exactly (test ∷ tests) = grind (arith, judged_exactly tests)
+pub judged_exactly : {X : Type 0} (tests : List Test) (x y : X) → (judged tests x ≡ Ok y) ↔ (Pass tests × (x ≡ y))
+judged_exactly [] x y = grind arith
+judged_exactly (test ∷ tests) x y = grind (arith, judged_exactly tests x y)
 
-pub runs_exactly : (runs : List (List Test)) → (judged_runs {X = Unit {0}} runs tt ≡ Ok tt) ↔ PassAll runs
-runs_exactly [] = (λ _. tt, λ _. refl)
-runs_exactly (run ∷ runs) = grind (arith, judged_exactly run, runs_exactly runs)
+pub runs_exactly : {X : Type 0} (runs : List (List Test)) (x y : X) → (judged_runs runs x ≡ Ok y) ↔ (PassAll runs × (x ≡ y))
+runs_exactly [] x y = grind arith
+runs_exactly (run ∷ runs) x y = grind (arith, judged_exactly {X = Unit {0}} run tt tt, runs_exactly runs x y)

@@ -4,9 +4,10 @@ use Rattle.std.proofs.lemmas.List.{length-append, length-replicate}
 use Rattle.std.proofs.lemmas.Bool.Decides.{nat_tests}
 use Rattle.content.specs.Bytes.{AllBytes}
 use Rattle.quorum.specs.Limits.{largest_group}
-use Rattle.frame.specs.Bytes.{taken, bytes_of, kind_of, fits, WordsFit}
-use Rattle.frame.specs.Check.{kind_runs, kind_takes}
+use Rattle.frame.specs.Bytes.{taken, filled, bytes_of, kind_of, fits, WordsFit}
+use Rattle.frame.specs.Check.{checked, kind_runs, kind_takes}
 use Rattle.frame.specs.Fields.{all_zero, members_of, member_passes, member_fields}
+use Rattle.frame.specs.Kinds.{kind_number}
 use Rattle.frame.specs.Lawful.{Lawful, ReadsBack}
 use Rattle.frame.specs.Limits.{slot_size}
 use Rattle.frame.specs.Messages.{Said, put, held, update, reading}
@@ -14,18 +15,22 @@ use Rattle.frame.proofs.Members.{member_passes_lawful}
 use Rattle.frame.proofs.Copies.{content_size, copy_passes}
 use Rattle.frame.proofs.Laws.{Laws}
 use Rattle.frame.proofs.Passing.{Holds, found_from_holds}
+use Rattle.frame.proofs.Checked.{checked_from_holds}
 use Rattle.frame.proofs.Places.{word_of_bytes}
 use Rattle.frame.proofs.ReadWritten.{answer_was_written}
 use Rattle.frame.proofs.Runs.{Pass, PassAll}
 use Rattle.frame.proofs.ToldBack.{first_byte, update_parts, told_back, nothing_else_is_read}
+
+-- bytes that have room in a slot, and the zeros behind them, fill it
+pub filled_length : (bytes : List ℕ) → length bytes ≤ slot_size → length (filled bytes) ≡ slot_size
+filled_length bytes room = simp (length-append, length-replicate) (omega arith)
 
 module _ {C : Type 0} (width : ℕ) (meaning : C → List ℕ) (reads : List ℕ → Option C) (laws : Laws width meaning reads) where
   -- what was written fills the slot, so long as the parts have their lengths
   pub bytes_fill_a_slot : (message : Said) → fits width message ≡ true → length (bytes_of message) ≡ slot_size
   bytes_fill_a_slot message fitting =
       let bounded = laws.bounded in
-      let room : length (taken message) ≤ slot_size = grind (arith, nat_tests, length-append {A = ℕ}) in
-      simp (length-append, length-replicate) (omega arith)
+      filled_length (taken message) (grind (arith, nat_tests, length-append {A = ℕ}))
 
   -- a lawful message: its parts have their lengths, its numbers have 16 bits, and its bytes hold a frame of its kind
   pub lawful_fits : (message : Said) → Lawful meaning message → fits width message ≡ true
@@ -52,13 +57,19 @@ module _ {C : Type 0} (width : ℕ) (meaning : C → List ℕ) (reads : List ℕ
       grind (arith, nat_tests)
   fields_pass message lawful = grind (arith, nat_tests, word_of_bytes)
 
+  lawful_holds : (message : Said) → Lawful meaning message → Holds width reads (bytes_of message) (kind_of message)
+  lawful_holds message lawful =
+      let (pass, rest) = fields_pass message lawful in
+      record { long = bytes_fill_a_slot message (lawful_fits message lawful); first = first_byte message; pass = pass; rest = rest }
+
+  -- so it is checked as its kind, and as so many bytes
+  pub lawful_checked : (message : Said) → Lawful meaning message → checked width reads (bytes_of message) ≡ Ok (kind_number (kind_of message), kind_takes width (kind_of message))
+  lawful_checked message lawful = checked_from_holds width reads (bytes_of message) (kind_of message) (lawful_holds message lawful)
+
   pub written_reads_back : (message : Said) → Lawful meaning message → reading width reads (bytes_of message) ≡ Ok message
   written_reads_back message lawful =
-      let fitting = lawful_fits message lawful in
-      let (pass, rest) = fields_pass message lawful in
-      let holds : Holds width reads (bytes_of message) (kind_of message) =
-      record { long = bytes_fill_a_slot message fitting; first = first_byte message; pass = pass; rest = rest } in
-      rw (found_from_holds width reads (bytes_of message) (kind_of message) holds) (ap Ok (told_back width message fitting (lawful_words message lawful)))
+      let told_so = told_back width message (lawful_fits message lawful) (lawful_words message lawful) in
+      rw (found_from_holds width reads (bytes_of message) (kind_of message) (lawful_holds message lawful)) (ap Ok told_so)
 
   -- the same of a slot that holds those bytes; a message that is not lawful is not read of it, since what is read is lawful
   pub slot_reads_back : (message : Said) (slot : List ℕ) → fits width message ≡ true → WordsFit message → AllBytes slot → slot ≡ bytes_of message → ReadsBack width meaning reads message slot

@@ -1,5 +1,5 @@
 -- The weight of a set, place by place.
-use Rattle.std.specs.Prelude.{◌≡◌, ℕ, suc, ◌+◌, ◌*◌, ◌/◌, ◌^◌, ◌<◌, ◌≤◌, true, ◌&&◌, List, [], ◌∷◌, length, drop, nat_le, slice_index, refl, sum_by, filter, if◌then◌else◌}
+use Rattle.std.specs.Prelude.{◌≡◌, ℕ, suc, ◌+◌, ◌*◌, ◌/◌, ◌^◌, ◌<◌, ◌≤◌, true, ◌&&◌, List, [], ◌∷◌, length, drop, nat_le, slice_index, refl, sum_by, if◌then◌else◌}
 use Rattle.std.specs.List.{enumerate_from}
 use Rattle.std.proofs.Common.{ap, ◌∙◌, arith}
 use Rattle.std.proofs.lemmas.List.{get_or_past, at_drop_more}
@@ -12,15 +12,15 @@ use Rattle.quorum.specs.Rules.{weight, none_too_heavy}
 
 -- the weights whose places are in the set, summed
 abbrev pub weight_of_members : List ℕ → ℕ → ℕ
-weight_of_members ws set = sum_by (λ p. p.1) (filter (λ p. member p.0 set) (enumerate_from 0 ws))
+weight_of_members ws set = sum_by (λ p. if member p.0 set then p.1 else 0) (enumerate_from 0 ws)
 
 -- place n is the first: its weight counts if bit n of the set is 1
-from_place : (n : ℕ) (ws : List ℕ) (set : ℕ) → sum_by (λ p. p.1) (filter (λ p. member p.0 set) (enumerate_from n ws)) ≡ weight ws (set / 2 ^ n)
+from_place : (n : ℕ) (ws : List ℕ) (set : ℕ) → sum_by (λ p. if member p.0 set then p.1 else 0) (enumerate_from n ws) ≡ weight ws (set / 2 ^ n)
 from_place n [] set = refl
 from_place n (w ∷ ws) set =
     let rest = from_place (n + 1) ws set in
     let half = shr-shr set n 1 in
-    let one_more = sum_by-cons (λ (p : ℕ × ℕ). p.1) (n, w) (filter (λ (p : ℕ × ℕ). member p.0 set) (enumerate_from (n + 1) ws)) in
+    let one_more = sum_by-cons (λ (p : ℕ × ℕ). if member p.0 set then p.1 else 0) (n, w) (enumerate_from (n + 1) ws) in
     grind (arith, nat_tests)
 
 -- what the weights from place i on add, one place taken off
